@@ -1,0 +1,43 @@
+-- What holds of every system's depth and scale.
+-- Assumes nothing.
+use Prim.Native.Nat.{ℕ, _*_, _-_, _^_, _%_, _≤_, _<_}
+use mathlib.Core.Path.{_≡_, refl}
+use native.Mathlib.Omega.{arith}
+use Rattle.systems.specs.declared.System.{System}
+use Rattle.systems.specs.declared.System.the-variants.{Bt709Bits8, Bt709Bits10, Bt2020Bits10, Bt2020Bits12}
+use mathlib.Core.Path.{ap, _∙_}
+use mathlib.Core.Bool.{Bool, true, false}
+use mathlib.Core.List.{List, [], _∷_}
+use borrow.Author.Tests.{ne-eqb}
+use Rattle.exact.specs.Outcome.{Outcome, accepted, refused}
+use Rattle.systems.specs.Systems.{number, bits, scale, named, namedIn}
+
+pub bits-range : (y : System) → (8 ≤ bits y) × (bits y ≤ 12)
+bits-range Bt709Bits8 = omega arith
+bits-range Bt709Bits10 = omega arith
+bits-range Bt2020Bits10 = omega arith
+bits-range Bt2020Bits12 = omega arith
+
+pub scale-range : (y : System) → (0 < scale y) × (scale y ≤ 16)
+scale-range Bt709Bits8 = omega arith
+scale-range Bt709Bits10 = omega arith
+scale-range Bt2020Bits10 = omega arith
+scale-range Bt2020Bits12 = omega arith
+
+-- a one shifted left by n-8 in 16 bits
+pub scale-by-shift : (y : System) → 1 * 2 ^ (bits y - 8) % 65536 ≡ scale y
+scale-by-shift Bt709Bits8 = refl
+scale-by-shift Bt709Bits10 = refl
+scale-by-shift Bt2020Bits10 = refl
+scale-by-shift Bt2020Bits12 = refl
+
+-- a number that no system has is refused
+pub unnamed : (n : ℕ) → (n ≡ 1 → ⊥) → (n ≡ 2 → ⊥) → (n ≡ 3 → ⊥) → (n ≡ 4 → ⊥) → named n ≡ refused 1
+unnamed n n1 n2 n3 n4 = other Bt709Bits8 (Bt709Bits10 ∷ Bt2020Bits10 ∷ Bt2020Bits12 ∷ []) n1
+    ∙ other Bt709Bits10 (Bt2020Bits10 ∷ Bt2020Bits12 ∷ []) n2 ∙ other Bt2020Bits10 (Bt2020Bits12 ∷ []) n3 ∙ other Bt2020Bits12 [] n4
+  where
+    other : (y : System) (ys : List System) → (n ≡ number y → ⊥) → namedIn (y ∷ ys) n ≡ namedIn ys n
+    other y ys h = ap pick (ne-eqb n (number y) h)
+      where
+        pick : Bool → Outcome System
+        pick b = elim b [ true ↦ accepted y | false ↦ namedIn ys n ]

@@ -1,0 +1,23 @@
+use mathlib.Core.Path.{ap}
+use Prim.Native.Nat.{ℕ, _*_, _-_}
+use native.Mathlib.Omega.{arith}
+use borrow.Author.Needs.{needs}
+use Rattle.systems.specs.declared.Range.{Range}
+use Rattle.systems.proofs.Scales.{scale-range}
+use Rattle.systems.proofs.System.nominal.Statement.{statement}
+use Rattle.systems.proofs.System.nominal.Tie as tie
+
+scale-requires : tie.Need-scale-requires
+scale-requires c κs = search needs
+
+mul-t3 : tie.Need-mul-t3
+mul-t3 c = omega (arith, c .scale .ensures, scale-range (c .before .args .self))
+
+mul-t4 : tie.Need-mul-t4
+mul-t4 c = omega (arith, c .scale .ensures, scale-range (c .before .args .self))
+
+returns : tie.Need-returns
+returns c = rw (c .scale .ensures)
+
+pub nominal-spec : {M : Type 1} → statement M
+nominal-spec = tie.close (tie.spec scale-requires mul-t3 mul-t4 returns)

@@ -1,0 +1,60 @@
+// The refusals, each with its number and its condition (document 01, 'What the caller hears').
+ghost use mathlib.Core.Path.{_≡_};
+ghost use Rattle.systems.specs.Refusals.{refusal};
+
+pub enum Refusal {
+    // 1: system not 1 to 4.
+    System,
+    // 2: width not 1 to 7680.
+    Width,
+    // 3: height not 1 to 4320.
+    Height,
+    // 4: lights not 3·width.
+    Lights,
+    // 5: lent output too short.
+    Output,
+    // 6: code or word outside nominal.
+    Code,
+    // 7: signal below 0, above 1, or not a number.
+    Signal,
+    // 8: block ends too early.
+    BlockEnd,
+    // 9: count 0, above 7680, or unlike the Y' count.
+    Count,
+    // 10: block's row number above 4319.
+    RowNumber,
+    // 11: bytes after the Cr section.
+    BytesAfter,
+    // 21: open while open.
+    AlreadyOpen,
+    // 22: row or close while not open.
+    NotOpen,
+    // 23: row when all rows are accepted.
+    AllRows,
+    // 24: close with rows missing.
+    RowsMissing,
+}
+
+impl Refusal {
+    pub fn number(self) -> u32
+        ensures { λ r. ⌜ r ≡ refusal self ⌝ }
+    {
+        match self {
+            Refusal::System => 1,
+            Refusal::Width => 2,
+            Refusal::Height => 3,
+            Refusal::Lights => 4,
+            Refusal::Output => 5,
+            Refusal::Code => 6,
+            Refusal::Signal => 7,
+            Refusal::BlockEnd => 8,
+            Refusal::Count => 9,
+            Refusal::RowNumber => 10,
+            Refusal::BytesAfter => 11,
+            Refusal::AlreadyOpen => 21,
+            Refusal::NotOpen => 22,
+            Refusal::AllRows => 23,
+            Refusal::RowsMissing => 24,
+        }
+    }
+}

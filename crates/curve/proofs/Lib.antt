@@ -1,0 +1,4 @@
+pub mod Curve
+pub mod Lights
+pub mod Tests
+pub mod Lookup

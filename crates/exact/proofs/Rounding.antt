@@ -1,0 +1,14 @@
+-- INT is what document 01 says it is: d is at most INT(x/y) exactly when d is at most x/y + 1/2.
+-- Assumes nothing.
+use mathlib.Core.Logic.{_↔_}
+use Prim.Native.Nat.{ℕ, _+_, _*_, _≤_, _<_}
+use native.Mathlib.Nat.{le-div-iff-mul-le, le-refl}
+use native.Mathlib.Omega.{arith}
+use Rattle.exact.specs.Whole.{INT}
+
+pub int-at-least : (x y d : ℕ) → 0 < y → (d ≤ INT x y) ↔ (d * (2 * y) ≤ 2 * x + y)
+unfolding INT
+int-at-least x y d h = le-div-iff-mul-le {k = 2 * y} {x = d} {y = 2 * x + y} (omega arith)
+
+pub int-rises : (x z y : ℕ) → 0 < y → x ≤ z → INT x y ≤ INT z y
+int-rises x z y h l = int-at-least z y (INT x y) h .1 (omega (arith, int-at-least x y (INT x y) h .0 (le-refl _)))

@@ -1,0 +1,2 @@
+pub mod Lit
+pub mod Spans

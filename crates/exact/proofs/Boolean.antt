@@ -1,8 +1,16 @@
 -- A test that is made of others, taken apart.
 -- Assumes nothing.
-use mathlib.Core.Bool.{Bool, true, false, _&&_, _||_}
+use mathlib.Core.Path.{_≡_, refl, sym, subst}
+use mathlib.Core.Bool.{Bool, true, false, _&&_, _||_, false≢true}
 use mathlib.Core.Logic.{_⊎_, inl, inr}
 use lib.Dec.{T}
+
+pub holds : {b : Bool} → b ≡ true → T b
+holds e = subst T (sym e) tt
+
+pub is-true : (b : Bool) → T b → b ≡ true
+is-true true t = refl
+is-true false t = absurd t
 
 pub all-three : (a b c : Bool) → T (a && (b && c)) → T a × T b × T c
 all-three true true c t = (tt, tt, t)
@@ -12,3 +20,9 @@ all-three false b c t = absurd t
 pub one-of-two : (a b : Bool) → T (a || b) → T a ⊎ T b
 one-of-two true b t = inl tt
 one-of-two false b t = inr t
+
+pub each-of-three : (a b c : Bool) → (a && b && c) ≡ true → (a ≡ true) × (b ≡ true) × (c ≡ true)
+each-of-three true true true h = (refl, refl, refl)
+each-of-three true true false h = absurd (false≢true h)
+each-of-three true false c h = absurd (false≢true h)
+each-of-three false b c h = absurd (false≢true h)

@@ -59,6 +59,29 @@ module _ (y : System) (d : ℕ) (lit : Lit y d) where
     (λ s. omega (arith, least-has, greatest-has, codes-rise y (leastLight y d) k (s .0), codes-rise y k (greatestLight y d) (s .1))),
   )
 
+-- a span by the lights at its ends
+pub span-by-ends : (y : System) (d lo hi : ℕ) → code y lo < d → code y (suc lo) ≡ d → code y hi ≡ d → d < code y (suc hi) → suc hi ≤ fullLight
+    → (leastLight y d ≡ suc lo) × (greatestLight y d ≡ hi)
+span-by-ends y d lo hi before first last after small = (
+  omega (arith, least-first y d lit (suc lo) (ordered (below-or-not lo hi)) first, from (below-or-not lo (leastLight y d))),
+  omega (arith, greatest-last y d lit hi (omega arith) last, to (below-or-not hi (greatestLight y d))),
+)
+  where
+    lit : Lit y d
+    lit = record { light = hi; small = omega arith; has = last }
+
+    ordered : (lo < hi) ⊎ (hi ≤ lo) → suc lo ≤ fullLight
+    ordered (inl h) = omega arith
+    ordered (inr h) = absurd (omega (arith, codes-rise y hi lo h))
+
+    from : (lo < leastLight y d) ⊎ (leastLight y d ≤ lo) → lo < leastLight y d
+    from (inl h) = h
+    from (inr h) = absurd (omega (arith, least-has y d lit, codes-rise y (leastLight y d) lo h))
+
+    to : (hi < greatestLight y d) ⊎ (greatestLight y d ≤ hi) → greatestLight y d ≤ hi
+    to (inl h) = absurd (omega (arith, greatest-has y d lit, codes-rise y (suc hi) (greatestLight y d) h))
+    to (inr h) = h
+
 pub inside : (xs : List ℕ) (i d e : ℕ) → i < length xs → getD xs i d ≡ getD xs i e
 inside [] i d e h = absurd (not-suc-le-zero h)
 inside (x ∷ xs) zero d e h = refl

@@ -13,6 +13,7 @@ use Rattle.systems.specs.declared.Named.{Named}
 use Rattle.systems.specs.declared.Named.the-variants.{Known, Unknown}
 use Rattle.systems.specs.declared.Transfer.{Transfer}
 use Rattle.systems.specs.declared.Range.{Range}
+use Rattle.systems.specs.declared.Codes.{Codes}
 
 -- a system's number
 abbrev pub number : System → ℕ
@@ -64,6 +65,10 @@ videoData y = record { low = scale y; high = 255 * scale y - 1 }
 -- a code is in a range, its ends included
 abbrev pub within : Range → ℕ → Bool
 within r d = leb (r .low) d && leb d (r .high)
+
+-- so are all three codes of a sample
+abbrev pub allWithin : Range → Codes → Bool
+allWithin r d = within r (d .r) && within r (d .g) && within r (d .b)
 
 -- the timing codes: 0 to s-1 and 255s to 256s-1
 abbrev pub timing : System → ℕ → Bool

@@ -1,12 +1,10 @@
 // The four systems of document 01, 'Four systems', with their constants, the weights of 'Triples' and the refusals of
 // 'What the caller hears'. Each constant is written once, here.
 mod refusal;
-mod triple;
 
 pub use refusal::Refusal;
-pub use triple::Codes;
 ghost use mathlib.Core.Path.{_≡_};
-ghost use Rattle.systems.specs.Systems.{number, matrix, bits, scale, transfer, middle, nominal, nominalDifference, videoData, within, kr, kg, kb, named, found};
+ghost use Rattle.systems.specs.Systems.{number, matrix, bits, scale, transfer, middle, nominal, nominalDifference, videoData, within, allWithin, kr, kg, kb, named, found};
 ghost use lib.IntN.{pos};
 
 // A Recommendation's matrix.
@@ -39,6 +37,13 @@ pub struct Transfer {
 pub struct Range {
     pub low: u16,
     pub high: u16,
+}
+
+// R', G' and B' codes of a sample.
+pub struct Codes {
+    pub r: u16,
+    pub g: u16,
+    pub b: u16,
 }
 
 // The shares of R', G' and B' in Y', in ten-thousandths.
@@ -80,6 +85,14 @@ impl Range {
         ensures { λ r. ⌜ r ≡ within self code ⌝ }
     {
         self.low <= code && code <= self.high
+    }
+}
+
+impl Codes {
+    pub fn all_in(self, range: Range) -> bool
+        ensures { λ r. ⌜ r ≡ allWithin range self ⌝ }
+    {
+        range.holds(self.r) & range.holds(self.g) & range.holds(self.b)
     }
 }
 

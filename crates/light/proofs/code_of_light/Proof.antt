@@ -1,9 +1,4 @@
-use mathlib.Core.Path.{_≡_, sym, ap, _∙_}
-use Rattle.exact.specs.Outcome.{Outcome, accepted, refused}
-use Rattle.exact.proofs.Outcome.{goes-on, stops}
-use Rattle.systems.specs.declared.System.{System}
-use Rattle.systems.specs.Systems.{named, found}
-use Rattle.curve.specs.Curve.{code}
+use mathlib.Core.Path.{sym}
 use borrow.Author.Needs.{needs}
 use Rattle.light.proofs.code_of_light.Statement.{statement}
 use Rattle.light.proofs.code_of_light.Tie as tie
@@ -22,15 +17,11 @@ enum-told c = search needs
 
 returns : tie.Need-returns
 returns c =
-    let a = c .before .before .before .before .before .args in
-    let known : named (a .system) ≡ accepted _ = sym (c .before .before .before .before .from-number .ensures) ∙ ap found (c .before .before .y .given .1) in
-    ap accepted (c .code-of .ensures) ∙ sym (goes-on (λ y. accepted (code y (a .light))) (named (a .system)) known)
+    let named = c .before .before in
+    rw (sym (named .before .before .from-number .ensures), named .y .given .1, c .code-of .ensures)
 
 returns-2 : tie.Need-returns-2
-returns-2 c =
-    let a = c .before .before .before .args in
-    let unknown : named (a .system) ≡ refused 1 = sym (c .before .before .from-number .ensures) ∙ ap found (c .enum-told .given .1) in
-    sym (stops (λ y. accepted (code y (a .light))) (named (a .system)) unknown)
+returns-2 c = rw (sym (c .before .before .from-number .ensures), c .enum-told .given .1)
 
 pub code-of-light-spec : {M : Type 1} → statement M
 code-of-light-spec =

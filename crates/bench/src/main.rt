@@ -1,0 +1,88 @@
+// The bench values of document 01, run through the public calls, a line each. proofs/Bench.antt has the starred ones as a theorem.
+use libc::STDOUT_FILENO;
+use light::CodeSpan;
+use light::LightCode;
+use signals::Quantised;
+use signals::Signals;
+use systems::Refusal;
+
+fn main() {
+    of_light(1, 33);
+    of_light(1, 34);
+    of_span(1, 17);
+    of_light(1, 32768);
+    of_light(2, 32768);
+    of_light(4, 1186);
+    of_light(4, 1187);
+    ends(1);
+    ends(2);
+    ends(3);
+    ends(4);
+    of_signal(1, 0.5, b" E' 0.5:");
+    of_signal(2, 0.375, b" E' 0.375:");
+}
+
+fn ends(system: u32) {
+    of_light(system, 0);
+    of_light(system, 65535);
+}
+
+fn of_light(system: u32, light: u16) {
+    given(system, b" light ");
+    number(light as u64);
+    io::write_all(STDOUT_FILENO, b":");
+    match light::code_of_light(system, light) {
+        LightCode::Code(d) => value(d),
+        LightCode::Refused(r) => refused(r),
+    }
+    io::write_all(STDOUT_FILENO, b"\n");
+}
+
+fn of_span(system: u32, code: u16) {
+    given(system, b" span of ");
+    number(code as u64);
+    io::write_all(STDOUT_FILENO, b":");
+    match light::span_of_code(system, code) {
+        CodeSpan::Lights(s) => {
+            value(s.least);
+            io::write_all(STDOUT_FILENO, b" to");
+            value(s.greatest);
+        }
+        CodeSpan::Refused(r) => refused(r),
+    }
+    io::write_all(STDOUT_FILENO, b"\n");
+}
+
+// One signal in all three components.
+fn of_signal(system: u32, e: f32, name: &[u8]) {
+    given(system, name);
+    match signals::codes_of_signals(system, Signals { r: e, g: e, b: e }) {
+        Quantised::Codes(c) => {
+            value(c.r);
+            value(c.g);
+            value(c.b);
+        }
+        Quantised::Refused(r) => refused(r),
+    }
+    io::write_all(STDOUT_FILENO, b"\n");
+}
+
+fn given(system: u32, what: &[u8]) {
+    io::write_all(STDOUT_FILENO, b"system ");
+    number(system as u64);
+    io::write_all(STDOUT_FILENO, what);
+}
+
+fn refused(r: Refusal) {
+    io::write_all(STDOUT_FILENO, b" refused ");
+    number(r.number() as u64);
+}
+
+fn value(x: u16) {
+    io::write_all(STDOUT_FILENO, b" ");
+    number(x as u64);
+}
+
+fn number(x: u64) {
+    io::print_decimal(STDOUT_FILENO, x);
+}

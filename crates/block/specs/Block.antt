@@ -1,0 +1,21 @@
+-- The bytes of a row block (document 01, 'Row block'). Definitions only.
+use Prim.Native.Nat.{ℕ, _/_, _%_}
+use mathlib.Core.List.{List, [], _∷_, _++_}
+use lib.ListN.{length}
+
+-- a field of 2 bytes, low byte first
+abbrev pub field : ℕ → List ℕ
+field n = n % 256 ∷ n / 256 % 256 ∷ []
+
+-- words of 2 bytes each
+unfoldable pub fields : List ℕ → List ℕ
+fields [] = []
+fields (w ∷ ws) = field w ++ fields ws
+
+-- a section: a count, and that many words
+unfoldable pub section : List ℕ → List ℕ
+section ws = field (length ws) ++ fields ws
+
+-- the block of a row: system, row number, and the sections Y', Cb, Cr
+unfoldable pub block : ℕ → ℕ → List ℕ → List ℕ → List ℕ → List ℕ
+block n row ys cbs crs = n ∷ field row ++ section ys ++ section cbs ++ section crs

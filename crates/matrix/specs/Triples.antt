@@ -1,0 +1,108 @@
+-- Codes to words and back (document 01, 'Triples'). Inside INT stands the exact rational, here as one ratio.
+-- Definitions only.
+use Prim.Native.Nat.{ℕ, _+_, _*_, _-_}
+use mathlib.Core.Bool.{Bool, true, false, _&&_}
+use lib.IntN.{ℤ, pos, negsuc, _+ℤ_, _-ℤ_, _*ℤ_}
+use lib.Signed.{ltZ}
+use Rattle.exact.specs.Signed.{Ratio, rounded}
+use Rattle.exact.specs.Outcome.{Outcome, accepted, refused, _and-then_, require}
+use Rattle.systems.specs.declared.Codes.{Codes}
+use Rattle.systems.specs.declared.Matrix.{Matrix}
+use Rattle.systems.specs.declared.Range.{Range}
+use Rattle.systems.specs.declared.System.{System}
+use Rattle.systems.specs.Systems.{matrix, scale, kr, kg, kb, nominal, nominalDifference, within, allWithin, named}
+use Rattle.systems.specs.Refusals.{refusal}
+use Rattle.matrix.specs.declared.Words.{Words}
+use Rattle.matrix.specs.declared.Clipped.{Clipped}
+use Rattle.matrix.specs.declared.Encoded.{Encoded}
+use Rattle.matrix.specs.declared.Encoded.the-variants as encoded
+use Rattle.matrix.specs.declared.Decoded.{Decoded}
+use Rattle.matrix.specs.declared.Decoded.the-variants as decoded
+
+-- kr·R + kg·G + kb·B
+abbrev pub weighted : Matrix → Codes → ℕ
+weighted x c = kr x * c .r + kg x * c .g + kb x * c .b
+
+-- Y': (kr·R + kg·G + kb·B)/10000
+abbrev pub luma : Matrix → Codes → Ratio
+luma x c = record { top = pos (weighted x c); bottom = 10000 }
+
+-- Cb of the code B with k = kb, Cr of R with k = kr, where m = 128s:
+-- (10000·B - kr·R - kg·G - kb·B)·224/(219·2·(10000 - kb)) + m
+abbrev pub difference : Matrix → ℕ → ℕ → ℕ → Codes → Ratio
+difference x m k d c = record {
+  top = (pos (10000 * d) -ℤ pos (weighted x c)) *ℤ pos 224 +ℤ pos (m * (219 * 2 * (10000 - k)));
+  bottom = 219 * 2 * (10000 - k);
+}
+
+abbrev pub cbOf : Matrix → ℕ → Codes → Ratio
+cbOf x s c = difference x (128 * s) (kb x) (c .b) c
+
+abbrev pub crOf : Matrix → ℕ → Codes → Ratio
+crOf x s c = difference x (128 * s) (kr x) (c .r) c
+
+-- a whole number that is not below 0
+abbrev pub whole : ℤ → ℕ
+whole (pos n) = n
+whole (negsuc n) = 0
+
+-- the words of a triple of nominal codes; none of the three roundings is below 0
+unfoldable pub wordsAt : Matrix → ℕ → Codes → Words
+wordsAt x s c = record { y = whole (rounded (luma x c)); cb = whole (rounded (cbOf x s c)); cr = whole (rounded (crOf x s c)) }
+
+-- the signed difference C - m, cb or cr
+abbrev pub signed : ℕ → ℕ → ℤ
+signed s w = pos w -ℤ pos (128 * s)
+
+-- with q = 219/224. R: Y' + q·cr·2·(10000 - kr)/10000; B: the same with cb and kb
+abbrev pub primary : ℕ → ℤ → ℕ → Ratio
+primary y c k = record { top = pos (224 * 10000 * y) +ℤ c *ℤ pos (219 * 2 * (10000 - k)); bottom = 224 * 10000 }
+
+abbrev pub redOf : Matrix → ℕ → Words → Ratio
+redOf x s w = primary (w .y) (signed s (w .cr)) (kr x)
+
+abbrev pub blueOf : Matrix → ℕ → Words → Ratio
+blueOf x s w = primary (w .y) (signed s (w .cb)) (kb x)
+
+-- G: Y' - q·cr·2·kr·(10000 - kr)/(10000·kg) - q·cb·2·kb·(10000 - kb)/(10000·kg)
+abbrev pub greenOf : Matrix → ℕ → Words → Ratio
+greenOf x s w = record {
+  top = pos (224 * 10000 * kg x * w .y) -ℤ signed s (w .cr) *ℤ pos (219 * 2 * kr x * (10000 - kr x)) -ℤ signed s (w .cb) *ℤ pos (219 * 2 * kb x * (10000 - kb x));
+  bottom = 224 * 10000 * kg x;
+}
+
+-- a component brought to the nearer end of a range where it is beyond it, and whether it was
+abbrev pub clipped : Range → ℤ → ℕ
+clipped r v = elim (ltZ v (pos (r .low))) [ true ↦ r .low | false ↦ elim (ltZ (pos (r .high)) v) [ true ↦ r .high | false ↦ whole v ] ]
+
+abbrev pub beyond : Range → ℤ → ℕ
+beyond r v = elim (ltZ v (pos (r .low))) [ true ↦ 1 | false ↦ elim (ltZ (pos (r .high)) v) [ true ↦ 1 | false ↦ 0 ] ]
+
+-- the codes of a triple of words, clipped to 16s to 235s, and the count of those that were
+unfoldable pub codesAt : Matrix → ℕ → Words → Clipped
+codesAt x s w =
+    let n : Range = record { low = 16 * s; high = 235 * s } in
+    let r = rounded (redOf x s w) in
+    let g = rounded (greenOf x s w) in
+    let b = rounded (blueOf x s w) in
+    record { codes = record { r = clipped n r; g = clipped n g; b = clipped n b }; count = beyond n r + beyond n g + beyond n b }
+
+-- the words of a code triple in the system that n names, or refusal 1 or 6
+abbrev pub wordsOfCodes : ℕ → Codes → Outcome Words
+wordsOfCodes n c = named n and-then λ (y : System). require (allWithin (nominal y) c) 6 (accepted (wordsAt (matrix y) (scale y) c))
+
+abbrev pub wordsWithin : System → Words → Bool
+wordsWithin y w = within (nominal y) (w .y) && within (nominalDifference y) (w .cb) && within (nominalDifference y) (w .cr)
+
+-- the codes of a word triple in the system that n names, or refusal 1 or 6
+abbrev pub codesOfWords : ℕ → Words → Outcome Clipped
+codesOfWords n w = named n and-then λ (y : System). require (wordsWithin y w) 6 (accepted (codesAt (matrix y) (scale y) w))
+
+-- what the answers say
+abbrev pub toldWords : Encoded → Outcome Words
+toldWords (encoded.Words w) = accepted w
+toldWords (encoded.Refused r) = refused (refusal r)
+
+abbrev pub toldCodes : Decoded → Outcome Clipped
+toldCodes (decoded.Codes c) = accepted c
+toldCodes (decoded.Refused r) = refused (refusal r)

@@ -1,0 +1,57 @@
+use mathlib.Core.Path.{_∙_, sym}
+use native.Mathlib.Omega.{arith}
+use borrow.Author.Needs.{needs}
+use Rattle.systems.proofs.Scales.{scale-range}
+use Rattle.signals.proofs.Triple.{each-in-unit}
+use Rattle.signals.proofs.codes_of_signals.Statement.{statement}
+use Rattle.signals.proofs.codes_of_signals.Tie as tie
+
+from-number-requires : tie.Need-from-number-requires
+from-number-requires c κs = search needs
+
+enum-known-y : tie.Need-enum-known-y
+enum-known-y c = search needs
+
+all-in-unit-requires : tie.Need-all-in-unit-requires
+all-in-unit-requires c κs = search needs
+
+scale-requires : tie.Need-scale-requires
+scale-requires c κs = search needs
+
+codes-at-requires : tie.Need-codes-at-requires
+codes-at-requires c κs =
+    let tested = c .before .before in
+    let named = tested .before .before in
+    let units = each-in-unit (named .before .before .before .args .signals) (sym (tested .all-in-unit .ensures) ∙ c .before .if1 .taken) in
+    (omega (arith, scale-range (named .y .given .0 .0)), units .0, units .1, units .2)
+
+enum-told : tie.Need-enum-told
+enum-told c = search needs
+
+returns : tie.Need-returns
+returns c =
+    let tested = c .before .before .before in
+    let named = tested .before .before in
+    rw (sym (named .before .before .from-number .ensures), named .y .given .1, sym (tested .all-in-unit .ensures) ∙ c .before .before .if1 .taken, c .codes-at .ensures, c .before .scale .ensures)
+
+returns-2 : tie.Need-returns-2
+returns-2 c =
+    let named = c .before .before .before in
+    rw (sym (named .before .before .from-number .ensures), named .y .given .1, sym (c .before .all-in-unit .ensures) ∙ c .if1 .left)
+
+returns-3 : tie.Need-returns-3
+returns-3 c = rw (sym (c .before .before .from-number .ensures), c .enum-told .given .1)
+
+pub codes-of-signals-spec : {M : Type 1} → statement M
+codes-of-signals-spec =
+    tie.close
+    (tie.spec
+    from-number-requires
+    enum-known-y
+    all-in-unit-requires
+    scale-requires
+    codes-at-requires
+    enum-told
+    returns
+    returns-2
+    returns-3)

@@ -1,0 +1,62 @@
+use mathlib.Core.Path.{_∙_, sym}
+use borrow.Author.Needs.{needs}
+use Rattle.systems.proofs.Ranges.{all-nominal}
+use Rattle.systems.proofs.Scales.{scale-range}
+use Rattle.signals.proofs.signals_of_codes.Statement.{statement}
+use Rattle.signals.proofs.signals_of_codes.Tie as tie
+
+from-number-requires : tie.Need-from-number-requires
+from-number-requires c κs = search needs
+
+enum-known-y : tie.Need-enum-known-y
+enum-known-y c = search needs
+
+nominal-requires : tie.Need-nominal-requires
+nominal-requires c κs = search needs
+
+all-in-requires : tie.Need-all-in-requires
+all-in-requires c κs = search needs
+
+scale-requires : tie.Need-scale-requires
+scale-requires c κs = search needs
+
+signals-at-requires : tie.Need-signals-at-requires
+signals-at-requires c κs =
+    let tested = c .before .before in
+    let named = tested .before .before .before in
+    let y = named .y .given .0 .0 in
+    let s = scale-range y in
+    let ranges = all-nominal y (named .before .before .before .args .codes) (rw (tested .before .nominal .ensures) at (sym (tested .all-in .ensures) ∙ c .before .if1 .taken)) in
+    rw (c .scale .ensures) (s .0, s .1, ranges .0 .0, ranges .1 .0, ranges .2 .0)
+
+enum-told : tie.Need-enum-told
+enum-told c = search needs
+
+returns : tie.Need-returns
+returns c =
+    let tested = c .before .before .before in
+    let named = tested .before .before .before in
+    rw (sym (named .before .before .from-number .ensures), named .y .given .1, rw (tested .before .nominal .ensures) at (sym (tested .all-in .ensures) ∙ c .before .before .if1 .taken), c .signals-at .ensures, c .before .scale .ensures)
+
+returns-2 : tie.Need-returns-2
+returns-2 c =
+    let named = c .before .before .before .before in
+    rw (sym (named .before .before .from-number .ensures), named .y .given .1, rw (c .before .before .nominal .ensures) at (sym (c .before .all-in .ensures) ∙ c .if1 .left))
+
+returns-3 : tie.Need-returns-3
+returns-3 c = rw (sym (c .before .before .from-number .ensures), c .enum-told .given .1)
+
+pub signals-of-codes-spec : {M : Type 1} → statement M
+signals-of-codes-spec =
+    tie.close
+    (tie.spec
+    from-number-requires
+    enum-known-y
+    nominal-requires
+    all-in-requires
+    scale-requires
+    signals-at-requires
+    enum-told
+    returns
+    returns-2
+    returns-3)

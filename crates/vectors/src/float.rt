@@ -1,0 +1,25 @@
+// Floats by their bits.
+
+// The float with these bits. The language takes no NaN from bits, so each NaN's pattern gives the NaN of 0/0.
+pub fn from_bits(bits: u32) -> f32 {
+    let unsigned = bits % 0x8000_0000;
+    if unsigned <= 0x7f80_0000 {
+        f32::from_bits(bits)
+    } else {
+        not_a_number()
+    }
+}
+
+pub fn not_a_number() -> f32 {
+    let zero: f32 = 0.0;
+    zero / zero
+}
+
+// Whether x has these bits: a NaN has none, and a zero's sign counts.
+pub fn has_bits(x: f32, bits: u32) -> bool {
+    if x == x {
+        f32::to_bits(x) == bits
+    } else {
+        false
+    }
+}

@@ -1,0 +1,84 @@
+// Lights to codes and codes to spans, against the file 'spans'.
+ghost use Prim.Native.Nat.{_+_, _≤_};
+ghost use lib.ListN.{length};
+use crate::data::u16_at;
+use crate::place::Place;
+use crate::tally::Tally;
+use light::CodeSpan;
+use light::LightCode;
+use light::Span;
+
+// Compares the span of each code with its record.
+pub fn compare_spans(records: &[u8]) -> Tally {
+    let mut tally = Tally::NONE;
+    let mut place = Place::FIRST;
+    let mut at = 0;
+    while records.len() - at >= 4 {
+        tally = tally.with(is_span(place, span_at(records, at)));
+        place = place.next();
+        at += 4;
+    }
+    tally
+}
+
+// Compares the code of each light with the record whose span holds it. In each system the spans have to follow one another from
+// light 0, so that each light is compared once.
+pub fn compare_lights(records: &[u8]) -> Tally {
+    let mut tally = Tally::NONE;
+    let mut place = Place::FIRST;
+    let mut first: u32 = 0;
+    let mut at = 0;
+    while records.len() - at >= 4 {
+        let span = span_at(records, at);
+        tally = compare_span(place, first, span, tally);
+        place = place.next();
+        first = after(span, place);
+        at += 4;
+    }
+    tally
+}
+
+// Compares the lights from `first` to the span's greatest with the place's code. Where the span begins elsewhere, each differs.
+fn compare_span(place: Place, first: u32, span: Span, tally: Tally) -> Tally {
+    let greatest = span.greatest;
+    let begins = span.least as u32 == first;
+    let mut tally = tally;
+    let mut light = first;
+    while light <= greatest as u32 {
+        tally = tally.with(begins && has_code(place, light as u16));
+        light += 1;
+    }
+    tally
+}
+
+// The light at which the span of the place after this span has to begin.
+fn after(span: Span, next: Place) -> u32 {
+    if next.is_black() {
+        0
+    } else {
+        span.greatest as u32 + 1
+    }
+}
+
+fn span_at(records: &[u8], at: usize) -> Span
+    requires { ⌜ at + 4 ≤ length (now records) ⌝ }
+{
+    Span {
+        least: u16_at(records, at),
+        greatest: u16_at(records, at + 2),
+    }
+}
+
+fn is_span(place: Place, span: Span) -> bool {
+    match light::span_of_code(place.system, place.code) {
+        CodeSpan::Lights(s) => s.least == span.least && s.greatest == span.greatest,
+        CodeSpan::Refused(_) => false,
+    }
+}
+
+fn has_code(place: Place, light: u16) -> bool {
+    match light::code_of_light(place.system, light) {
+        LightCode::Code(code) => code == place.code,
+        LightCode::Refused(_) => false,
+    }
+}

@@ -1,0 +1,96 @@
+-- The picture's calls (document 01, 'Picture' and 'What the caller hears'): state is tested first, then input in the order of the numbers.
+-- Definitions only.
+use Prim.Native.Nat.{ℕ, _+_, _*_}
+use mathlib.Core.Bool.{Bool, true, false, _&&_}
+use mathlib.Core.List.{List, _++_}
+use lib.Dec.{leb, ltb, eqb}
+use lib.ListN.{length, drop}
+use Rattle.exact.specs.Outcome.{Outcome, accepted, refused, _and-then_, require}
+use Rattle.systems.specs.declared.System.{System}
+use Rattle.systems.specs.Systems.{named}
+use Rattle.systems.specs.Refusals.{refusal}
+use Rattle.row.specs.Row.{rowBlock}
+use Rattle.picture.specs.declared.Opened.{Opened}
+use Rattle.picture.specs.declared.Phase.{Phase}
+use Rattle.picture.specs.declared.Phase.the-variants.{Fresh, Open, Closed}
+use Rattle.picture.specs.declared.Picture.{Picture}
+use Rattle.picture.specs.declared.Change.{Change}
+use Rattle.picture.specs.declared.Change.the-variants as change
+
+-- a picture at a phase
+abbrev pub at : Phase → Picture
+at f = record { phase = f }
+
+-- width 1 to 7680, height 1 to 4320
+abbrev pub widthOk : ℕ → Bool
+widthOk w = leb 1 w && leb w 7680
+
+abbrev pub heightOk : ℕ → Bool
+heightOk h = leb 1 h && leb h 4320
+
+-- open with these, no row accepted
+abbrev pub begun : System → ℕ → ℕ → Picture
+begun y w h = at (Open (record { system = y; width = w; height = h; rows = 0 }))
+
+unfoldable pub begin : ℕ → ℕ → ℕ → Outcome Picture
+begin n w h = named n and-then λ y. require (widthOk w) 2 (require (heightOk h) 3 (accepted (begun y w h)))
+
+-- open: allowed when fresh or closed
+abbrev pub openFrom : Phase → ℕ → ℕ → ℕ → Outcome Picture
+openFrom Fresh n w h = begin n w h
+openFrom (Open o) n w h = refused 21
+openFrom Closed n w h = begin n w h
+
+abbrev pub opening : Picture → ℕ → ℕ → ℕ → Outcome Picture
+opening p n w h = openFrom (p .phase) n w h
+
+-- the bytes of a row's block
+abbrev pub blockLength : ℕ → ℕ
+blockLength w = 9 + 6 * w
+
+-- one row more
+abbrev pub more : Opened → Picture
+more o = at (Open (record { system = o .system; width = o .width; height = o .height; rows = o .rows + 1 }))
+
+-- a row of lights to an open picture, with so many bytes of room
+unfoldable pub rowOpen : Opened → List ℕ → ℕ → Outcome Picture
+rowOpen o lights room =
+    require (ltb (o .rows) (o .height)) 23
+    (require (eqb (length lights) (3 * o .width)) 4
+    (require (leb (blockLength (o .width)) room) 5
+    (accepted (more o))))
+
+abbrev pub rowFrom : Phase → List ℕ → ℕ → Outcome Picture
+rowFrom Fresh lights room = refused 22
+rowFrom (Open o) lights room = rowOpen o lights room
+rowFrom Closed lights room = refused 22
+
+abbrev pub rowing : Picture → List ℕ → ℕ → Outcome Picture
+rowing p lights room = rowFrom (p .phase) lights room
+
+-- the buffer as a row leaves it: the block at the front where it is accepted, and later bytes as they were
+abbrev pub bufferBy : Outcome Picture → Opened → List ℕ → List ℕ → List ℕ
+bufferBy (accepted p) o lights out = rowBlock (o .system) (o .rows) (o .width) lights ++ drop (blockLength (o .width)) out
+bufferBy (refused n) o lights out = out
+
+abbrev pub bufferFrom : Phase → List ℕ → List ℕ → List ℕ
+bufferFrom Fresh lights out = out
+bufferFrom (Open o) lights out = bufferBy (rowOpen o lights (length out)) o lights out
+bufferFrom Closed lights out = out
+
+abbrev pub bufferAfter : Picture → List ℕ → List ℕ → List ℕ
+bufferAfter p lights out = bufferFrom (p .phase) lights out
+
+-- close: needs every row
+abbrev pub closeFrom : Phase → Outcome Picture
+closeFrom Fresh = refused 22
+closeFrom (Open o) = require (eqb (o .rows) (o .height)) 24 (accepted (at Closed))
+closeFrom Closed = refused 22
+
+abbrev pub closing : Picture → Outcome Picture
+closing p = closeFrom (p .phase)
+
+-- what the answer says
+abbrev pub toldPicture : Change → Outcome Picture
+toldPicture (change.To p) = accepted p
+toldPicture (change.Refused r) = refused (refusal r)

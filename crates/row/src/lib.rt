@@ -1,0 +1,1 @@
+// The row block of a row of lights (document 01, 'Picture').

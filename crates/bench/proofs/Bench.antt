@@ -12,12 +12,17 @@ use Rattle.systems.specs.declared.System.the-variants.{Bt709Bits8}
 use Rattle.light.proofs.Spans.{span-by-ends}
 use Rattle.light.specs.Light.{codeOfLight, spanOfCode}
 use Rattle.signals.specs.Signals.{signalCodes}
+use Rattle.exact.specs.Signed.{rounded}
+use Rattle.matrix.specs.Triples.{wordsAt, codesAt, wordsOfCodes, codesOfWords}
 
--- what is given, with its system: a light, a code's span, or a signal by its 32 bits in all three components
+-- what is given, with its system: a light, a code's span, a signal by its 32 bits in all three components, R, G and B codes, or
+-- Y', Cb and Cr words
 data Case : Type 0 where
   light : ℕ → ℕ → Case
   span : ℕ → ℕ → Case
   signal : ℕ → ℕ → Case
+  codes : ℕ → ℕ → ℕ → ℕ → Case
+  words : ℕ → ℕ → ℕ → ℕ → Case
 
 -- the values that the definitions give
 abbrev answer : Case → Outcome (List ℕ)
@@ -26,13 +31,16 @@ answer (span n d) = spanOfCode n d and-then λ s. accepted (s .least ∷ s .grea
 answer (signal n bits) =
     let e = ofBits binary32 bits in
     signalCodes n (record { r = e; g = e; b = e }) and-then λ c. accepted (c .r ∷ c .g ∷ c .b ∷ [])
+answer (codes n r g b) = wordsOfCodes n (record { r = r; g = g; b = b }) and-then λ w. accepted (w .y ∷ w .cb ∷ w .cr ∷ [])
+answer (words n y cb cr) =
+    codesOfWords n (record { y = y; cb = cb; cr = cr }) and-then λ c. accepted (c .codes .r ∷ c .codes .g ∷ c .codes .b ∷ c .count ∷ [])
 
 record Row : Type 0 where
   given : Case
-  result : List ℕ
+  result : Outcome (List ℕ)
 
 abbrev row : Case → List ℕ → Row
-row c r = record { given = c; result = r }
+row c r = record { given = c; result = accepted r }
 
 -- E' 0.5 and 0.375 have the bits 3F000000 and 3EC00000
 abbrev table : List Row
@@ -46,12 +54,18 @@ table =
     ∷ row (light 4 0) (256 ∷ []) ∷ row (light 4 65535) (3760 ∷ [])
     ∷ row (signal 1 0x3f00_0000) (126 ∷ 126 ∷ 126 ∷ [])
     ∷ row (signal 2 0x3ec0_0000) (393 ∷ 393 ∷ 393 ∷ [])
+    ∷ row (codes 1 235 16 16) (63 ∷ 102 ∷ 240 ∷ [])
+    ∷ row (words 1 63 102 240) (235 ∷ 17 ∷ 16 ∷ 0 ∷ [])
+    ∷ row (codes 1 16 235 16) (173 ∷ 42 ∷ 26 ∷ [])
+    ∷ row (codes 3 940 64 64) (294 ∷ 387 ∷ 960 ∷ [])
+    ∷ row (words 1 16 240 240) (188 ∷ 16 ∷ 219 ∷ 1 ∷ [])
+    ∷ record { given = words 1 15 128 128; result = refused 6 }
     ∷ []
 
 span-of-17 : (leastLight Bt709Bits8 17 ≡ 34) × (greatestLight Bt709Bits8 17 ≡ 99)
 unfolding INT greatest dark linear reaches curved codeOf code
 span-of-17 = span-by-ends Bt709Bits8 17 33 99 (lit< tt) refl refl (lit< tt) (lit≤ tt)
 
-bench-values : map (λ r. answer (r .given)) table ≡ map (λ r. accepted (r .result)) table
-unfolding INT greatest dark linear reaches curved codeOf code ofBits
+bench-values : map (λ r. answer (r .given)) table ≡ map (λ r. r .result) table
+unfolding INT greatest dark linear reaches curved codeOf code ofBits rounded wordsAt codesAt
 bench-values = rw (span-of-17 .0, span-of-17 .1)

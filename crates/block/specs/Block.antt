@@ -1,7 +1,8 @@
 -- The bytes of a row block (document 01, 'Row block'). Definitions only.
 use Prim.Native.Nat.{ℕ, _/_, _%_}
 use mathlib.Core.List.{List, [], _∷_, _++_}
-use lib.ListN.{length}
+use lib.ListN.{length, getD}
+use Rattle.matrix.specs.declared.Words.{Words}
 
 -- a field of 2 bytes, low byte first
 abbrev pub field : ℕ → List ℕ
@@ -19,3 +20,7 @@ section ws = field (length ws) ++ fields ws
 -- the block of a row: system, row number, and the sections Y', Cb, Cr
 unfoldable pub block : ℕ → ℕ → List ℕ → List ℕ → List ℕ → List ℕ
 block n row ys cbs crs = n ∷ field row ++ section ys ++ section cbs ++ section crs
+
+-- the words of sample i of a row
+abbrev pub sampleOf : List ℕ → List ℕ → List ℕ → ℕ → Words
+sampleOf ys cbs crs i = record { y = getD ys i 0; cb = getD cbs i 0; cr = getD crs i 0 }

@@ -6,12 +6,16 @@ use mathlib.Core.List.{List, [], _∷_, _++_}
 use lib.Dec.{leb, eqb}
 use lib.ListN.{length, getD, drop}
 use Rattle.exact.specs.Outcome.{Outcome, accepted, refused, _and-then_, require}
+use Rattle.systems.specs.declared.Codes.{Codes}
+use Rattle.systems.specs.declared.Matrix.{Matrix}
 use Rattle.systems.specs.declared.System.{System}
 use Rattle.systems.specs.Systems.{named, matrix, scale}
 use Rattle.systems.specs.Refusals.{refusal}
+use Rattle.matrix.specs.declared.Clipped.{Clipped}
 use Rattle.matrix.specs.declared.Words.{Words}
 use Rattle.matrix.specs.Triples.{codesAt, wordsWithin}
 use Rattle.block.specs.declared.Header.{Header}
+use Rattle.block.specs.declared.Walked.{Walked}
 use Rattle.block.specs.declared.BlockRead.{BlockRead}
 use Rattle.block.specs.declared.BlockRead.the-variants as answer
 
@@ -31,55 +35,68 @@ sectionAt bs i good =
 abbrev pub widthOk : ℕ → Bool
 widthOk w = leb 1 w && leb w 7680
 
--- what the walk from the front finds: the system and the count
-pub record Walked : Type 0 where
-  pub system : System
-  pub count : ℕ
+-- the three sections of one count, after which nothing may follow: their count
+unfoldable pub sections : List ℕ → Outcome ℕ
+sections bs =
+    sectionAt bs 3 widthOk and-then λ w.
+    sectionAt bs (5 + 2 * w) (eqb w) and-then λ _.
+    sectionAt bs (7 + 4 * w) (eqb w) and-then λ _.
+    require (eqb (length bs) (9 + 6 * w)) 11
+    (accepted w)
 
--- the walk: system, row number, and the three sections of one count; then nothing may follow
+-- the walk from the front: system, row number and sections
 unfoldable pub walk : List ℕ → Outcome Walked
 walk bs =
     require (leb 3 (length bs)) 8
     (named (getD bs 0 0) and-then λ y.
     require (leb (fieldAt bs 1) 4319) 10
-    (sectionAt bs 3 widthOk and-then λ w.
-    sectionAt bs (5 + 2 * w) (eqb w) and-then λ _.
-    sectionAt bs (7 + 4 * w) (eqb w) and-then λ _.
-    require (eqb (length bs) (9 + 6 * w)) 11
-    (accepted (record { system = y; count = w }))))
+    (sections bs and-then λ w.
+    accepted (record { system = y; samples = w })))
 
 -- the words of sample i in a block of w samples
 abbrev pub sampleAt : List ℕ → ℕ → ℕ → Words
 sampleAt bs w i = record { y = fieldAt bs (5 + 2 * i); cb = fieldAt bs (7 + 2 * w + 2 * i); cr = fieldAt bs (9 + 4 * w + 2 * i) }
 
--- the first n samples' words are nominal
-unfoldable pub nominalTo : System → List ℕ → ℕ → ℕ → Bool
-nominalTo y bs w zero = true
-nominalTo y bs w (suc n) = nominalTo y bs w n && wordsWithin y (sampleAt bs w n)
+-- the words of a row's first n samples are nominal
+unfoldable pub nominalTo : System → (ℕ → Words) → ℕ → Bool
+nominalTo y row zero = true
+nominalTo y row (suc n) = nominalTo y row n && wordsWithin y (row n)
 
--- the first n samples' codes, R, G and B each
-unfoldable pub codesTo : System → List ℕ → ℕ → ℕ → List ℕ
-codesTo y bs w zero = []
-codesTo y bs w (suc n) =
-    let c = codesAt (matrix y) (scale y) (sampleAt bs w n) in
-    codesTo y bs w n ++ c .codes .r ∷ c .codes .g ∷ c .codes .b ∷ []
+-- the codes of a row's samples, from their words
+abbrev pub decoded : Matrix → ℕ → (ℕ → Words) → ℕ → Clipped
+decoded x s row i = codesAt x s (row i)
 
--- how many of their components were clipped
-unfoldable pub clippedTo : System → List ℕ → ℕ → ℕ → ℕ
-clippedTo y bs w zero = 0
-clippedTo y bs w (suc n) = clippedTo y bs w n + codesAt (matrix y) (scale y) (sampleAt bs w n) .count
+-- R, G and B of a sample
+abbrev pub listed : Codes → List ℕ
+listed c = c .r ∷ c .g ∷ c .b ∷ []
+
+-- R, G and B of a row's first n samples
+unfoldable pub codesTo : (ℕ → Clipped) → ℕ → List ℕ
+codesTo row zero = []
+codesTo row (suc n) = codesTo row n ++ listed (row n .codes)
+
+-- how many of them were clipped
+unfoldable pub clippedTo : (ℕ → Clipped) → ℕ → ℕ
+clippedTo row zero = 0
+clippedTo row (suc n) = clippedTo row n + row n .count
+
+-- the codes of a block of w samples
+abbrev pub rowOf : System → List ℕ → ℕ → ℕ → Clipped
+rowOf y bs w = decoded (matrix y) (scale y) (sampleAt bs w)
 
 -- reading into a slice of so many words: after the walk 6, then 5
 unfoldable pub headerOf : List ℕ → ℕ → Outcome Header
 headerOf bs room =
     walk bs and-then λ b.
-    require (nominalTo (b .system) bs (b .count) (b .count)) 6
-    (require (leb (3 * b .count) room) 5
-    (accepted (record { system = b .system; row = fieldAt bs 1; samples = b .count; clipped = clippedTo (b .system) bs (b .count) (b .count) })))
+    let y = b .system in
+    let w = b .samples in
+    require (nominalTo y (sampleAt bs w) w) 6
+    (require (leb (3 * w) room) 5
+    (accepted (record { system = y; row = fieldAt bs 1; samples = w; clipped = clippedTo (rowOf y bs w) w })))
 
 -- the slice after reading: the codes at its front where the block is accepted, and the rest as it was
 abbrev pub sliceBy : Outcome Header → List ℕ → List ℕ → List ℕ
-sliceBy (accepted h) bs slice = codesTo (h .system) bs (h .samples) (h .samples) ++ drop (3 * h .samples) slice
+sliceBy (accepted h) bs slice = codesTo (rowOf (h .system) bs (h .samples)) (h .samples) ++ drop (3 * h .samples) slice
 sliceBy (refused n) bs slice = slice
 
 abbrev pub sliceAfter : List ℕ → List ℕ → List ℕ

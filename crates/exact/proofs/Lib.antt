@@ -4,3 +4,7 @@ pub mod Outcome
 pub mod Rounding
 pub mod Search
 pub mod Table
+pub mod Machine
+pub mod Difference
+pub mod Lift
+pub mod Nearest

@@ -1,1 +1,21 @@
-// Exact whole-number arithmetic: the definitions and laws that every stage above shares. No function has to run for them.
+// Exact whole-number arithmetic: the rounding of document 01, 'Four systems', on i64, and the definitions and laws that
+// every stage above shares.
+ghost use mathlib.Core.Path.{_≡_};
+ghost use Prim.Native.Nat.{_*_, _^_, _≤_};
+ghost use lib.IntN.{pos, natAbs};
+ghost use lib.Signed.{_<ℤ_};
+ghost use Rattle.exact.specs.Signed.{rounded};
+
+// Above every quotient asked for: added before the division and taken off after it, no numerator is below 0 and every
+// quotient is rounded down.
+const LIFT: i64 = 16384;
+
+// INT of top/bottom, halves up, also below 0.
+pub fn int_of(top: i64, bottom: i64) -> i64
+    requires { ⌜ (pos 0 <ℤ bottom) × (natAbs bottom ≤ 2 ^ 40) × (natAbs top ≤ 8192 * natAbs bottom) ⌝ }
+    ensures { λ r. ⌜ r ≡ rounded (record { top = top; bottom = natAbs bottom }) ⌝ }
+{
+    let lifted = 2 * top + bottom + 2 * LIFT * bottom;
+    let quotient = lifted as u64 / (2 * bottom) as u64;
+    quotient as i64 - LIFT
+}

@@ -1,6 +1,19 @@
 // Codes to words and back (document 01, 'Triples').
 use systems::Codes;
+use systems::Matrix;
+use systems::Named;
+use systems::Range;
 use systems::Refusal;
+use systems::System;
+ghost use mathlib.Core.Path.{_≡_};
+ghost use Prim.Native.Nat.{_+_, _*_, _≤_, _<_};
+ghost use lib.IntN.{pos, natAbs};
+ghost use lib.ListN.{getD};
+ghost use lib.Signed.{_<ℤ_};
+ghost use Rattle.exact.specs.Signed.{rounded};
+ghost use Rattle.systems.specs.declared.Matrix.the-variants.{Bt709, Bt2020};
+ghost use Rattle.matrix.specs.Triples.{wordsAt, codesAt, wordsOfCodes, codesOfWords, toldWords, toldCodes, wordsWithin, signed, clipped, beyond};
+ghost use Rattle.matrix.specs.Rows.{NominalCodes, NominalWords, Small, dotted, encodingRows, colourDifference, componentsAt, decodingRows, primariesAt};
 
 // Y', Cb and Cr words of a sample.
 pub struct Words {
@@ -23,4 +36,233 @@ pub enum Encoded {
 pub enum Decoded {
     Codes(Clipped),
     Refused(Refusal),
+}
+
+// The weights' unit.
+const ONE: i64 = 10000;
+
+// Codes from black to white at 8 bits.
+const STEPS: i64 = (Range::WHITE - Range::BLACK) as i64;
+
+// Words from one end of a colour difference to the other at 8 bits.
+const DIFFERENCE_STEPS: i64 = (Range::DIFFERENCE_PEAK - Range::BLACK) as i64;
+
+// The words of a code triple; refused with 1, then 6.
+pub fn words_of_codes(system: u32, codes: Codes) -> Encoded
+    ensures { λ r. ⌜ toldWords r ≡ wordsOfCodes system codes ⌝ }
+{
+    match System::from_number(system) {
+        Named::Known(y) => {
+            if codes.all_in(y.nominal()) {
+                Encoded::Words(words_in(y.matrix(), y.scale(), codes))
+            } else {
+                Encoded::Refused(Refusal::Code)
+            }
+        }
+        Named::Unknown => Encoded::Refused(Refusal::System),
+    }
+}
+
+// The codes of a word triple; refused with 1, then 6.
+pub fn codes_of_words(system: u32, words: Words) -> Decoded
+    ensures { λ r. ⌜ toldCodes r ≡ codesOfWords system words ⌝ }
+{
+    match System::from_number(system) {
+        Named::Known(y) => {
+            if words.nominal_in(y) {
+                Decoded::Codes(codes_in(y.matrix(), y.scale(), words))
+            } else {
+                Decoded::Refused(Refusal::Code)
+            }
+        }
+        Named::Unknown => Decoded::Refused(Refusal::System),
+    }
+}
+
+// The codes' words by BT.709's matrix; its divisors are known when the call is compiled.
+pub fn words_709(s: u16, c: Codes) -> Words
+    requires { ⌜ (0 < s) × (s ≤ 16) × NominalCodes s c ⌝ }
+    ensures { λ r. ⌜ r ≡ wordsAt Bt709 s c ⌝ }
+{
+    words_in(Matrix::Bt709, s, c)
+}
+
+// The codes' words by BT.2020's matrix.
+pub fn words_2020(s: u16, c: Codes) -> Words
+    requires { ⌜ (0 < s) × (s ≤ 16) × NominalCodes s c ⌝ }
+    ensures { λ r. ⌜ r ≡ wordsAt Bt2020 s c ⌝ }
+{
+    words_in(Matrix::Bt2020, s, c)
+}
+
+// The words' codes by BT.709's matrix.
+pub fn codes_709(s: u16, w: Words) -> Clipped
+    requires { ⌜ (0 < s) × (s ≤ 16) × NominalWords s w ⌝ }
+    ensures { λ r. ⌜ r ≡ codesAt Bt709 s w ⌝ }
+{
+    codes_in(Matrix::Bt709, s, w)
+}
+
+// The words' codes by BT.2020's matrix.
+pub fn codes_2020(s: u16, w: Words) -> Clipped
+    requires { ⌜ (0 < s) × (s ≤ 16) × NominalWords s w ⌝ }
+    ensures { λ r. ⌜ r ≡ codesAt Bt2020 s w ⌝ }
+{
+    codes_in(Matrix::Bt2020, s, w)
+}
+
+impl Words {
+    fn nominal_in(self, y: System) -> bool
+        ensures { λ r. ⌜ r ≡ wordsWithin y self ⌝ }
+    {
+        let luma = y.nominal();
+        let difference = y.nominal_difference();
+        luma.holds(self.y) & difference.holds(self.cb) & difference.holds(self.cr)
+    }
+}
+
+fn words_in(x: Matrix, s: u16, c: Codes) -> Words
+    requires { ⌜ (s ≤ 16) × NominalCodes s c ⌝ }
+    ensures { λ r. ⌜ r ≡ wordsAt x s c ⌝ }
+{
+    let v = components(x, s, c);
+    Words {
+        y: v[0] as u16,
+        cb: v[1] as u16,
+        cr: v[2] as u16,
+    }
+}
+
+// Y', Cb and Cr.
+fn components(x: Matrix, s: u16, c: Codes) -> [i64; 3]
+    requires { ⌜ (s ≤ 16) × NominalCodes s c ⌝ }
+    ensures { λ r. ⌜ r ≡ componentsAt x s c ⌝ }
+{
+    let m = encoding(x);
+    let t = [c.r as i64, c.g as i64, c.b as i64];
+    [
+        exact::int_of(dot(m[0], t), ONE),
+        colour_difference(m[1], t, m[1][2], s),
+        colour_difference(m[2], t, m[2][0], s),
+    ]
+}
+
+// Cb or Cr, by a row and its entry for the colour that is its own.
+fn colour_difference(row: [i64; 3], triple: [i64; 3], own: i64, s: u16) -> i64
+    requires { ⌜ Small row triple × (pos 0 <ℤ own) × (natAbs own ≤ 10000) × (natAbs (dotted row triple) ≤ 7520 * natAbs own) × (s ≤ 16) ⌝ }
+    ensures { λ r. ⌜ r ≡ rounded (colourDifference (dotted row triple) (natAbs own) s) ⌝ }
+{
+    let bottom = STEPS * 2 * own;
+    let middle = (Range::MIDDLE * s) as i64;
+    exact::int_of(
+        dot(row, triple) * DIFFERENCE_STEPS + middle * bottom,
+        bottom,
+    )
+}
+
+// Y', B - Y' and R - Y' of (R, G, B), in ten-thousandths.
+fn encoding(x: Matrix) -> [[i64; 3]; 3]
+    ensures { λ r. ⌜ r ≡ encodingRows x ⌝ }
+{
+    let w = x.weights();
+    [
+        [w.kr, w.kg, w.kb],
+        [0 - w.kr, 0 - w.kg, ONE - w.kb],
+        [ONE - w.kr, 0 - w.kg, 0 - w.kb],
+    ]
+}
+
+fn codes_in(x: Matrix, s: u16, w: Words) -> Clipped
+    requires { ⌜ (s ≤ 16) × NominalWords s w ⌝ }
+    ensures { λ r. ⌜ r ≡ codesAt x s w ⌝ }
+{
+    let v = primaries(x, s, w);
+    let n = Range {
+        low: Range::BLACK * s,
+        high: Range::WHITE * s,
+    };
+    let codes = Codes {
+        r: clip(n, v[0]),
+        g: clip(n, v[1]),
+        b: clip(n, v[2]),
+    };
+    Clipped {
+        codes,
+        count: beyond(n, v[0]) + beyond(n, v[1]) + beyond(n, v[2]),
+    }
+}
+
+// R, G and B before they are clipped.
+fn primaries(x: Matrix, s: u16, w: Words) -> [i64; 3]
+    requires { ⌜ (s ≤ 16) × NominalWords s w ⌝ }
+    ensures { λ r. ⌜ r ≡ primariesAt x s w ⌝ }
+{
+    let m = decoding(x);
+    let t = [w.y as i64, signed(s, w.cb), signed(s, w.cr)];
+    [primary(m[0], t), primary(m[1], t), primary(m[2], t)]
+}
+
+// A row's divisor is the entry by which it multiplies Y'.
+fn primary(row: [i64; 3], triple: [i64; 3]) -> i64
+    requires { ⌜ Small row triple × (pos 0 <ℤ getD row 0 (pos 0)) × (natAbs (dotted row triple) ≤ 8192 * natAbs (getD row 0 (pos 0))) ⌝ }
+    ensures { λ r. ⌜ r ≡ rounded (record { top = dotted row triple; bottom = natAbs (getD row 0 (pos 0)) }) ⌝ }
+{
+    exact::int_of(dot(row, triple), row[0])
+}
+
+// A row of a matrix by a triple.
+fn dot(row: [i64; 3], triple: [i64; 3]) -> i64
+    requires { ⌜ Small row triple ⌝ }
+    ensures { λ r. ⌜ r ≡ dotted row triple ⌝ }
+{
+    row[0] * triple[0] + row[1] * triple[1] + row[2] * triple[2]
+}
+
+// The signed colour difference of a Cb or Cr word.
+fn signed(s: u16, word: u16) -> i64
+    requires { ⌜ s ≤ 16 ⌝ }
+    ensures { λ r. ⌜ r ≡ signed s word ⌝ }
+{
+    word as i64 - (Range::MIDDLE * s) as i64
+}
+
+// The way back from (Y', cb, cr): 224·10000 times R, 224·10000·kg times G and 224·10000 times B.
+fn decoding(x: Matrix) -> [[i64; 3]; 3]
+    ensures { λ r. ⌜ r ≡ decodingRows x ⌝ }
+{
+    let w = x.weights();
+    let y = DIFFERENCE_STEPS * ONE;
+    let cr = STEPS * 2 * (ONE - w.kr);
+    let cb = STEPS * 2 * (ONE - w.kb);
+    [
+        [y, 0, cr],
+        [y * w.kg, 0 - cb * w.kb, 0 - cr * w.kr],
+        [y, cb, 0],
+    ]
+}
+
+// The nearer end of the range where v is beyond it.
+fn clip(n: Range, v: i64) -> u16
+    ensures { λ r. ⌜ r ≡ clipped n v ⌝ }
+{
+    if v < n.low as i64 {
+        return n.low;
+    }
+    if v > n.high as i64 {
+        return n.high;
+    }
+    v as u16
+}
+
+// 1 where v is beyond the range.
+fn beyond(n: Range, v: i64) -> u32
+    ensures { λ r. ⌜ (r ≡ beyond n v) × (r ≤ 1) ⌝ }
+{
+    if v < n.low as i64 {
+        return 1;
+    }
+    if v > n.high as i64 {
+        return 1;
+    }
+    0
 }

@@ -1,1 +1,192 @@
-// The row block of a row of lights (document 01, 'Picture').
+// The row block of a row of lights (document 01, 'Picture'), made in one pass: each light is looked up once.
+use curve::code_in;
+use matrix::words_2020;
+use matrix::words_709;
+use matrix::Words;
+use systems::Codes;
+use systems::System;
+use thresholds::EightBits;
+use thresholds::TenBits;
+use thresholds::TwelveBits;
+ghost use mathlib.Core.Path.{_≡_};
+ghost use mathlib.Core.List.{_++_};
+ghost use Prim.Native.Nat.{_+_, _*_, _<_, _≤_};
+ghost use lib.ListN.{length, drop, set};
+ghost use Rattle.systems.specs.declared.Matrix.the-variants.{Bt709, Bt2020};
+ghost use Rattle.systems.specs.Systems.{number, matrix, scale};
+ghost use Rattle.curve.specs.Boundaries.{Ready};
+ghost use Rattle.row.specs.Row.{sampleCodes, sampleWords, rowBlock};
+ghost use Rattle.row.specs.Stores.{RowFits, put, headed, worded, stored};
+
+// One row block to the front of `out`; later bytes stay. The system's table is made once for the row.
+pub fn write_row(y: System, row: u16, width: u16, lights: &[u16], out: &mut [u8])
+    requires { ⌜ (length (now lights) ≡ 3 * width) × (9 + 6 * width ≤ length (now out)) ⌝ }
+    ensures { λ r. ⌜ now (out .exit) ≡ rowBlock y row width (now (lights .entry)) ++ drop (9 + 6 * width) (now (out .entry)) ⌝ }
+{
+    put_head(y, row, width, out);
+    match y {
+        System::Bt709Bits8 => {
+            let t = EightBits::new();
+            let shift = EightBits::SHIFT;
+            row_709(y, &t.boundaries, &t.index, shift, width, lights, out);
+        }
+        System::Bt709Bits10 => {
+            let t = TenBits::new();
+            let shift = TenBits::SHIFT;
+            row_709(y, &t.boundaries, &t.index, shift, width, lights, out);
+        }
+        System::Bt2020Bits10 => {
+            let t = TenBits::new();
+            let shift = TenBits::SHIFT;
+            row_2020(y, &t.boundaries, &t.index, shift, width, lights, out);
+        }
+        System::Bt2020Bits12 => {
+            let t = TwelveBits::new();
+            let shift = TwelveBits::SHIFT;
+            row_2020(y, &t.boundaries, &t.index, shift, width, lights, out);
+        }
+    }
+}
+
+// Every sample by BT.709's matrix; a loop of its own for each matrix makes the divisors constants.
+fn row_709<'a>(
+    y: System,
+    boundaries: &'a [u16],
+    index: &'a [u16],
+    shift: u32,
+    width: u16,
+    lights: &[u16],
+    out: &mut [u8],
+)
+    requires { ⌜ (matrix y ≡ Bt709) × Ready y shift (now boundaries) (now index) × RowFits width (now lights) (now out) ⌝ }
+    ensures { λ r. ⌜ now (out .exit) ≡ stored (sampleWords y (now (lights .entry))) width (now (out .entry)) width ⌝ }
+{
+    let s = y.scale();
+    let n = width as usize;
+    let mut i: usize = 0;
+    while i < n {
+        put_sample_709(y, s, boundaries, index, shift, n, i, lights, out);
+        i += 1;
+    }
+}
+
+// Every sample by BT.2020's matrix.
+fn row_2020<'a>(
+    y: System,
+    boundaries: &'a [u16],
+    index: &'a [u16],
+    shift: u32,
+    width: u16,
+    lights: &[u16],
+    out: &mut [u8],
+)
+    requires { ⌜ (matrix y ≡ Bt2020) × Ready y shift (now boundaries) (now index) × RowFits width (now lights) (now out) ⌝ }
+    ensures { λ r. ⌜ now (out .exit) ≡ stored (sampleWords y (now (lights .entry))) width (now (out .entry)) width ⌝ }
+{
+    let s = y.scale();
+    let n = width as usize;
+    let mut i: usize = 0;
+    while i < n {
+        put_sample_2020(y, s, boundaries, index, shift, n, i, lights, out);
+        i += 1;
+    }
+}
+
+// Sample i by BT.709's matrix.
+fn put_sample_709<'a>(
+    y: System,
+    s: u16,
+    boundaries: &'a [u16],
+    index: &'a [u16],
+    shift: u32,
+    width: usize,
+    i: usize,
+    lights: &[u16],
+    out: &mut [u8],
+)
+    requires { ⌜ (matrix y ≡ Bt709) × (s ≡ scale y) × Ready y shift (now boundaries) (now index) × (i < width) × (width < 65536) × RowFits width (now lights) (now out) ⌝ }
+    ensures { λ r. ⌜ now (out .exit) ≡ worded width i (sampleWords y (now (lights .entry)) i) (now (out .entry)) ⌝ }
+{
+    let c = sample_codes(y, boundaries, index, shift, i, lights);
+    put_words(width, i, words_709(s, c), out);
+}
+
+// Sample i by BT.2020's matrix.
+fn put_sample_2020<'a>(
+    y: System,
+    s: u16,
+    boundaries: &'a [u16],
+    index: &'a [u16],
+    shift: u32,
+    width: usize,
+    i: usize,
+    lights: &[u16],
+    out: &mut [u8],
+)
+    requires { ⌜ (matrix y ≡ Bt2020) × (s ≡ scale y) × Ready y shift (now boundaries) (now index) × (i < width) × (width < 65536) × RowFits width (now lights) (now out) ⌝ }
+    ensures { λ r. ⌜ now (out .exit) ≡ worded width i (sampleWords y (now (lights .entry)) i) (now (out .entry)) ⌝ }
+{
+    let c = sample_codes(y, boundaries, index, shift, i, lights);
+    put_words(width, i, words_2020(s, c), out);
+}
+
+// The codes of sample i's three lights.
+fn sample_codes<'a>(
+    y: System,
+    boundaries: &'a [u16],
+    index: &'a [u16],
+    shift: u32,
+    i: usize,
+    lights: &[u16],
+) -> Codes
+    requires { ⌜ Ready y shift (now boundaries) (now index) × (3 * i + 2 < length (now lights)) × (i < 65536) ⌝ }
+    ensures { λ r. ⌜ r ≡ sampleCodes y (now (lights .entry)) i ⌝ }
+{
+    let r = lights[3 * i];
+    let g = lights[3 * i + 1];
+    let b = lights[3 * i + 2];
+    Codes {
+        r: code_in(y, boundaries, index, shift, r),
+        g: code_in(y, boundaries, index, shift, g),
+        b: code_in(y, boundaries, index, shift, b),
+    }
+}
+
+// The system, the row number and the three counts.
+fn put_head(y: System, row: u16, width: u16, out: &mut [u8])
+    requires { ⌜ 9 + 6 * width ≤ length (now out) ⌝ }
+    ensures { λ r. ⌜ now (out .exit) ≡ headed (number y) row width (now (out .entry)) ⌝ }
+{
+    let n = width as usize;
+    put_byte(0, y.number() as u8, out);
+    put_field(1, row, out);
+    put_field(3, width, out);
+    put_field(5 + 2 * n, width, out);
+    put_field(7 + 4 * n, width, out);
+}
+
+// The words of sample i, one in each section.
+fn put_words(width: usize, i: usize, words: Words, out: &mut [u8])
+    requires { ⌜ (i < width) × (width < 65536) × (9 + 6 * width ≤ length (now out)) ⌝ }
+    ensures { λ r. ⌜ now (out .exit) ≡ worded width i words (now (out .entry)) ⌝ }
+{
+    put_field(5 + 2 * i, words.y, out);
+    put_field(7 + 2 * width + 2 * i, words.cb, out);
+    put_field(9 + 4 * width + 2 * i, words.cr, out);
+}
+
+// A field of two bytes, low byte first.
+fn put_field(at: usize, x: u16, out: &mut [u8])
+    requires { ⌜ at + 1 < length (now out) ⌝ }
+    ensures { λ r. ⌜ now (out .exit) ≡ put at x (now (out .entry)) ⌝ }
+{
+    out[at] = (x % 256) as u8;
+    out[at + 1] = (x / 256) as u8;
+}
+
+fn put_byte(at: usize, x: u8, out: &mut [u8])
+    requires { ⌜ at < length (now out) ⌝ }
+    ensures { λ r. ⌜ now (out .exit) ≡ set (now (out .entry)) at x ⌝ }
+{
+    out[at] = x;
+}

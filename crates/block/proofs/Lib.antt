@@ -1,0 +1,6 @@
+pub mod Walking
+pub mod Nominal
+pub mod Decoding
+pub mod Reading
+pub mod Bytes
+pub mod ReadBack

@@ -1,0 +1,101 @@
+-- The nominal words of a block: counted outside their ranges section by section, and required of each sample.
+-- Assumes nothing.
+use mathlib.Core.Path.{_≡_, refl, sym, ap, _∙_}
+use mathlib.Core.Bool.{Bool, true, false, _&&_, and-true, and-false, false≢true}
+use mathlib.Core.Logic.{_⊎_, inl, inr, ⊎-elim}
+use mathlib.Core.List.{List}
+use Prim.Native.Nat.{ℕ, zero, suc, _+_, _*_, _≤_, _<_}
+use native.Mathlib.Nat.{not-suc-le-zero}
+use native.Mathlib.Numerals.{add-one}
+use native.Mathlib.Omega.{arith}
+use lib.Dec.{ltb, eqb}
+use mir.Val.{boolByte}
+use borrow.Author.Tests.{le-leb, lt-leb, lt-ltb, le-ltb, eqb-true, eqb-false, ne-eqb}
+use Rattle.exact.proofs.Order.{below-or-not}
+use Rattle.systems.specs.declared.Range.{Range}
+use Rattle.systems.specs.declared.System.{System}
+use Rattle.systems.specs.Systems.{within, nominal, nominalDifference}
+use Rattle.matrix.specs.declared.Words.{Words}
+use Rattle.matrix.specs.Triples.{wordsWithin}
+use Rattle.block.specs.Read.{fieldAt, sampleAt, nominalTo}
+use Rattle.block.specs.Steps.{inRange}
+
+-- how often w is outside a range
+abbrev pub misses : Range → ℕ → ℕ
+misses r w = boolByte (ltb w (r .low)) + boolByte (ltb (r .high) w)
+
+-- both of two tests that pass together
+pub each : (a b : Bool) → (a && b) ≡ true → (a ≡ true) × (b ≡ true)
+each true true e = (refl, refl)
+each true false e = absurd (false≢true e)
+each false b e = absurd (false≢true e)
+
+-- a sum is 0 where both its parts are
+none-more : (n m : ℕ) (t : Bool) → (t ≡ true → m ≡ 0) → (t ≡ false → 0 < m) → eqb (n + m) 0 ≡ (eqb n 0 && t)
+none-more n m true z p =
+    let e : n + m ≡ n = omega (arith, z refl) in
+    ap (λ (k : ℕ). eqb k 0) e ∙ sym (and-true (eqb n 0))
+none-more n m false z p = ne-eqb (n + m) 0 (λ e. omega (arith, p refl)) ∙ sym (and-false (eqb n 0))
+
+pub none-of-three : (a b c : ℕ) → eqb (a + b + c) 0 ≡ (eqb a 0 && eqb b 0 && eqb c 0)
+none-of-three a b c = none-more (a + b) c (eqb c 0) (eqb-true c 0) (λ e. above c (eqb-false c 0 e))
+    ∙ ap (λ (t : Bool). t && eqb c 0) (none-more a b (eqb b 0) (eqb-true b 0) (λ e. above b (eqb-false b 0 e)))
+  where
+    above : (n : ℕ) → (n ≡ 0 → ⊥) → 0 < n
+    above zero h = absurd (h refl)
+    above (suc n) h = omega arith
+
+bit : (t : Bool) → boolByte t ≤ 1
+bit true = omega arith
+bit false = omega arith
+
+pub misses-small : (r : Range) (w : ℕ) → misses r w ≤ 2
+misses-small r w = omega (arith, bit (ltb w (r .low)), bit (ltb (r .high) w))
+
+within-misses : (r : Range) (w : ℕ) → (within r w ≡ true → misses r w ≡ 0) × (within r w ≡ false → 0 < misses r w)
+within-misses r w = go (below-or-not w (r .low)) (below-or-not (r .high) w)
+  where
+    go : (w < r .low) ⊎ (r .low ≤ w) → (r .high < w) ⊎ (w ≤ r .high) → (within r w ≡ true → misses r w ≡ 0) × (within r w ≡ false → 0 < misses r w)
+    go (inl p) q = rw (lt-leb _ _ p, lt-ltb _ _ p) ((λ e. absurd (false≢true e)), (λ e. omega arith))
+    go (inr p) (inl q) = rw (le-leb _ _ p, le-ltb _ _ p, lt-leb _ _ q, lt-ltb _ _ q) ((λ e. absurd (false≢true e)), (λ e. omega arith))
+    go (inr p) (inr q) = rw (le-leb _ _ p, le-ltb _ _ p, le-leb _ _ q, le-ltb _ _ q) ((λ e. refl), (λ e. absurd (false≢true (sym e))))
+
+-- one word more
+pub range-more : (r : Range) (bs : List ℕ) (at i bad : ℕ) → eqb bad 0 ≡ inRange r bs at i
+    → eqb (bad + misses r (fieldAt bs (at + 2 * i))) 0 ≡ inRange r bs at (i + 1)
+unfolding inRange
+range-more r bs at i bad e =
+    let w = fieldAt bs (at + 2 * i) in
+    let m = within-misses r w in
+    rw (add-one i) (none-more bad (misses r w) (within r w) (m .0) (m .1) ∙ ap (λ (t : Bool). t && within r w) e)
+
+-- two tests of three parts, part by part
+by-parts : (a b c d e f : Bool) → ((a && b && c) && (d && e && f)) ≡ ((a && d) && (b && e) && (c && f))
+by-parts true true true d e f = refl
+by-parts true true false d e f = sym (and-false (d && e))
+by-parts true false c d e f = sym (ap (λ (t : Bool). t && (c && f)) (and-false d))
+by-parts false b c d e f = refl
+
+-- the samples are nominal where the sections are
+pub nominal-by-sections : (y : System) (bs : List ℕ) (w n : ℕ) → nominalTo y (sampleAt bs w) n
+    ≡ (inRange (nominal y) bs 5 n && inRange (nominalDifference y) bs (7 + 2 * w) n && inRange (nominalDifference y) bs (9 + 4 * w) n)
+unfolding nominalTo inRange
+nominal-by-sections y bs w zero = refl
+nominal-by-sections y bs w (suc n) = ap (λ (t : Bool). t && wordsWithin y (sampleAt bs w n)) (nominal-by-sections y bs w n)
+    ∙ by-parts (inRange (nominal y) bs 5 n) (inRange (nominalDifference y) bs (7 + 2 * w) n) (inRange (nominalDifference y) bs (9 + 4 * w) n) _ _ _
+
+-- each of the first n samples is nominal
+pub nominal-at : (y : System) (row : ℕ → Words) (n i : ℕ) → nominalTo y row n ≡ true → i < n → wordsWithin y (row i) ≡ true
+unfolding nominalTo
+nominal-at y row zero i e h = absurd (not-suc-le-zero h)
+nominal-at y row (suc n) i e h =
+    let both = each (nominalTo y row n) (wordsWithin y (row n)) e in
+    ⊎-elim
+    (λ (l : i < n). nominal-at y row n i (both .0) l)
+    (λ (l : n ≤ i). let same : i ≡ n = omega arith in ap (λ (j : ℕ). wordsWithin y (row j)) same ∙ both .1)
+    (below-or-not i n)
+
+pub nominal-if : (y : System) (row : ℕ → Words) (n : ℕ) → ((i : ℕ) → i < n → wordsWithin y (row i) ≡ true) → nominalTo y row n ≡ true
+unfolding nominalTo
+nominal-if y row zero h = refl
+nominal-if y row (suc n) h = rw (nominal-if y row n (λ i l. h i (omega arith)), h n (omega arith)) refl

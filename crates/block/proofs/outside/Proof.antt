@@ -1,0 +1,78 @@
+use mathlib.Core.Path.{_≡_, refl, ap, _∙_}
+use Prim.Native.Nat.{_*_, _-_, _≤_}
+use native.Mathlib.Omega.{arith}
+use lib.Dec.{eqb}
+use denote.Ref.{now}
+use Rattle.block.specs.Steps.{inRange}
+use Rattle.block.proofs.Nominal.{misses-small, range-more}
+use Rattle.block.proofs.outside.Statement.{statement}
+use Rattle.block.proofs.outside.Tie as tie
+
+abbrev Inv-loop : tie.InvT-loop
+Inv-loop bytes at count low high bad₀ i₀ bad i = (i ≤ count) × (bad ≤ 2 * i) × (eqb bad 0 ≡ inRange (record { low = low; high = high }) bytes at i)
+
+abbrev μ-loop : tie.MeasureT-loop
+μ-loop bytes at count low high bad₀ i₀ bad i = count - i
+
+loop-holds : tie.Need-loop-holds Inv-loop μ-loop
+unfolding inRange
+loop-holds c = (omega arith, omega arith, refl)
+
+mul-field-at : tie.Need-mul-field-at Inv-loop μ-loop
+mul-field-at c = omega arith
+
+add-field-at : tie.Need-add-field-at Inv-loop μ-loop
+add-field-at c = omega arith
+
+field-at-requires : tie.Need-field-at-requires Inv-loop μ-loop
+field-at-requires c κs = omega arith
+
+cast-bad : tie.Need-cast-bad Inv-loop μ-loop
+cast-bad c = tt
+
+cast-bad-2 : tie.Need-cast-bad-2 Inv-loop μ-loop
+cast-bad-2 c = tt
+
+add-bad : tie.Need-add-bad Inv-loop μ-loop
+add-bad c = omega (arith, misses-small (c .before .before .before .before .args .range) (c .field-at .result))
+
+add-bad-2 : tie.Need-add-bad-2 Inv-loop μ-loop
+add-bad-2 c = omega (arith, misses-small (c .before .before .before .before .args .range) (c .field-at .result))
+
+add-i : tie.Need-add-i Inv-loop μ-loop
+add-i c = omega arith
+
+loop-less : tie.Need-loop-less Inv-loop μ-loop
+loop-less c = omega arith
+
+loop-again : tie.Need-loop-again Inv-loop μ-loop
+loop-again c =
+    let a = c .before .before .before .before .args in
+    let m = misses-small (a .range) (c .field-at .result) in
+    (omega arith, omega arith, rw (c .field-at .ensures) (range-more (a .range) (now (a .bytes)) (a .at) (c .before .before .loop .i) (c .before .before .loop .bad) (c .before .before .loop .inv .2)))
+
+returns : tie.Need-returns Inv-loop μ-loop
+returns c =
+    let a = c .before .before .before .args in
+    let l = c .before .loop in
+    let e : l .i ≡ a .count = omega arith in
+    (l .inv .2 ∙ ap (inRange (a .range) (now (a .bytes)) (a .at)) e, omega arith)
+
+pub outside-spec : {M : Type 1} → statement M
+outside-spec =
+    tie.close
+    (tie.spec
+    Inv-loop
+    μ-loop
+    loop-holds
+    mul-field-at
+    add-field-at
+    field-at-requires
+    cast-bad
+    cast-bad-2
+    add-bad
+    add-bad-2
+    add-i
+    loop-less
+    loop-again
+    returns)

@@ -1,0 +1,88 @@
+-- INT of a ratio, also of one below 0, is off it by at most a half, and a half goes up.
+-- Assumes nothing.
+use mathlib.Core.Path.{_≡_, sym, ap, _∙_, subst}
+use mathlib.Core.Logic.{_⊎_, inl, inr}
+use Prim.Native.Nat.{ℕ, suc, _+_, _*_, _-_, _/_, _≤_, _<_}
+use native.Mathlib.Nat.{div-mul-le-self, lt-div-mul-add, mul-left-comm, suc-mul, zero-mul}
+use native.Mathlib.Omega.{arith}
+use lib.IntN.{ℤ, pos, negsuc, subℕ, _+ℤ_, _-ℤ_, _*ℤ_, *ℤ-comm}
+use lib.Signed.{shrZ, _≤ℤ_}
+use Rattle.exact.specs.Signed.{Ratio, rounded}
+use Rattle.exact.proofs.Order.{below-or-not}
+use Rattle.exact.proofs.Difference.{sub-pos, sub-neg, pos-sub, neg-sub, sub-add, sub-minus, sub-mul, sub-le}
+
+-- v is INT of (p - n)/d, in naturals: v = up - down, and 2vd ≤ 2(p - n) + d < 2vd + 2d
+pub record Rounds (p n d : ℕ) (v : ℤ) : Type 0 where
+  pub up : ℕ
+  pub down : ℕ
+  pub is : v ≡ subℕ up down
+  pub not-over : 2 * (up * d) + 2 * n ≤ 2 * p + d + 2 * (down * d)
+  pub not-under : 2 * p + d + 2 * (down * d) < 2 * (up * d) + 2 * n + 2 * d
+
+pub rounds : (p n d : ℕ) → 0 < d → Rounds p n d (rounded record { top = subℕ p n; bottom = d })
+unfolding rounded
+rounds p n d D = subst (λ (z : ℤ). Rounds p n d (shrZ z (2 * d))) (sym doubled) (by-order (below-or-not (p * 2 + d) (n * 2 + 0)))
+  where
+    doubled : pos 2 *ℤ subℕ p n +ℤ pos d ≡ subℕ (p * 2 + d) (n * 2 + 0)
+    doubled = (λ i. (*ℤ-comm (pos 2) (subℕ p n) ∙ sub-mul p n 2) i +ℤ pos-sub d i) ∙ sub-add (p * 2) (n * 2) d 0
+
+    by-order : (p * 2 + d < n * 2 + 0) ⊎ (n * 2 + 0 ≤ p * 2 + d) → Rounds p n d (shrZ (subℕ (p * 2 + d) (n * 2 + 0)) (2 * d))
+    by-order (inl h) =
+        let a = n * 2 + 0 - suc (p * 2 + d) in
+        let q = a / (2 * d) in
+        let l : q * (2 * d) ≤ a = div-mul-le-self a (2 * d) in
+        let u : a < q * (2 * d) + 2 * d = lt-div-mul-add (omega arith) in
+        let e : q * (2 * d) ≡ 2 * (q * d) = mul-left-comm q 2 d in
+        let f : suc q * d ≡ q * d + d = suc-mul q d in
+        let z : 0 * d ≡ 0 = zero-mul d in
+        record {
+          up = 0;
+          down = suc q;
+          is = ap (λ (x : ℤ). shrZ x (2 * d)) (sub-neg (p * 2 + d) (n * 2 + 0) h) ∙ neg-sub (suc q);
+          not-over = omega arith;
+          not-under = omega arith;
+        }
+    by-order (inr h) =
+        let a = p * 2 + d - (n * 2 + 0) in
+        let q = a / (2 * d) in
+        let l : q * (2 * d) ≤ a = div-mul-le-self a (2 * d) in
+        let u : a < q * (2 * d) + 2 * d = lt-div-mul-add (omega arith) in
+        let e : q * (2 * d) ≡ 2 * (q * d) = mul-left-comm q 2 d in
+        let z : 0 * d ≡ 0 = zero-mul d in
+        record {
+          up = q;
+          down = 0;
+          is = ap (λ (x : ℤ). shrZ x (2 * d)) (sub-pos (p * 2 + d) (n * 2 + 0) h) ∙ pos-sub q;
+          not-over = omega arith;
+          not-under = omega arith;
+        }
+
+-- v is off top/bottom by at most a half: 2·|v·bottom - top| ≤ bottom
+pub record Near (v : ℤ) (q : Ratio) : Type 0 where
+  pub not-over : (pos 2 *ℤ (v *ℤ pos (q .bottom) -ℤ q .top)) ≤ℤ pos (q .bottom)
+  pub not-under : (pos 2 *ℤ (q .top -ℤ v *ℤ pos (q .bottom))) ≤ℤ pos (q .bottom)
+
+near : (p n d a b : ℕ) → 2 * (a * d) + 2 * n ≤ 2 * p + d + 2 * (b * d) → 2 * p + 2 * (b * d) ≤ 2 * (a * d) + 2 * n + d
+    → Near (subℕ a b) record { top = subℕ p n; bottom = d }
+near p n d a b o u = record {
+  not-over = subst (λ (z : ℤ). z ≤ℤ pos d) (sym over) (subst (λ (z : ℤ). subℕ ((a * d + n) * 2) ((b * d + p) * 2) ≤ℤ z) (sym (pos-sub d)) (sub-le ((a * d + n) * 2) ((b * d + p) * 2) d 0 (omega arith)));
+  not-under = subst (λ (z : ℤ). z ≤ℤ pos d) (sym under) (subst (λ (z : ℤ). subℕ ((p + b * d) * 2) ((n + a * d) * 2) ≤ℤ z) (sym (pos-sub d)) (sub-le ((p + b * d) * 2) ((n + a * d) * 2) d 0 (omega arith)));
+}
+  where
+    over : pos 2 *ℤ (subℕ a b *ℤ pos d -ℤ subℕ p n) ≡ subℕ ((a * d + n) * 2) ((b * d + p) * 2)
+    over = ap (λ (z : ℤ). pos 2 *ℤ (z -ℤ subℕ p n)) (sub-mul a b d) ∙ ap (λ (z : ℤ). pos 2 *ℤ z) (sub-minus (a * d) (b * d) p n) ∙ *ℤ-comm (pos 2) (subℕ (a * d + n) (b * d + p)) ∙ sub-mul (a * d + n) (b * d + p) 2
+
+    under : pos 2 *ℤ (subℕ p n -ℤ subℕ a b *ℤ pos d) ≡ subℕ ((p + b * d) * 2) ((n + a * d) * 2)
+    under = ap (λ (z : ℤ). pos 2 *ℤ (subℕ p n -ℤ z)) (sub-mul a b d) ∙ ap (λ (z : ℤ). pos 2 *ℤ z) (sub-minus p n (a * d) (b * d)) ∙ *ℤ-comm (pos 2) (subℕ (p + b * d) (n + a * d)) ∙ sub-mul (p + b * d) (n + a * d) 2
+
+difference-near : (p n d : ℕ) → 0 < d → Near (rounded record { top = subℕ p n; bottom = d }) record { top = subℕ p n; bottom = d }
+difference-near p n d D =
+    let r = rounds p n d D in
+    subst (λ (v : ℤ). Near v record { top = subℕ p n; bottom = d }) (sym (r .is)) (near p n d (r .up) (r .down) (r .not-over) (omega (arith, r .not-under)))
+
+pub rounded-near : (q : Ratio) → 0 < q .bottom → Near (rounded q) q
+rounded-near q D = by-sign (q .top)
+  where
+    by-sign : (t : ℤ) → Near (rounded record { top = t; bottom = q .bottom }) record { top = t; bottom = q .bottom }
+    by-sign (pos n) = subst (λ (t : ℤ). Near (rounded record { top = t; bottom = q .bottom }) record { top = t; bottom = q .bottom }) (sym (pos-sub n)) (difference-near n 0 (q .bottom) D)
+    by-sign (negsuc n) = subst (λ (t : ℤ). Near (rounded record { top = t; bottom = q .bottom }) record { top = t; bottom = q .bottom }) (sym (neg-sub (suc n))) (difference-near 0 (suc n) (q .bottom) D)

@@ -1,0 +1,100 @@
+-- Components brought to the nominal range, and how many of them were beyond it.
+-- Assumes nothing.
+use mathlib.Core.Path.{_≡_, refl, sym, ap, _∙_, subst}
+use mathlib.Core.Bool.{Bool, true, false}
+use mathlib.Core.Logic.{_⊎_, inl, inr}
+use Prim.Native.Nat.{ℕ, _+_, _*_, _-_, _≤_, _<_}
+use native.Mathlib.Nat.{le-refl}
+use native.Mathlib.Omega.{arith}
+use lib.Dec.{T, ltb}
+use lib.IntN.{ℤ, pos, negsuc, natAbs, subℕ}
+use lib.Signed.{nonNeg, ltZ}
+use borrow.Author.Tests.{ltb-true, ltb-false, le-ltb}
+use Rattle.exact.specs.Signed.{rounded}
+use Rattle.exact.proofs.Order.{below-or-not}
+use Rattle.exact.proofs.Difference.{sub-pos, sub-neg}
+use Rattle.systems.specs.declared.Matrix.{Matrix}
+use Rattle.systems.specs.declared.Range.{Range}
+use Rattle.matrix.specs.declared.Words.{Words}
+use Rattle.matrix.specs.Triples.{redOf, greenOf, blueOf, whole, clipped, beyond, codesAt}
+use Rattle.matrix.specs.Rows.{NominalCodes}
+
+pub record Inside (v : ℤ) (low high : ℕ) : Type 0 where
+  pub nonnegative : T (nonNeg v)
+  pub at-least : low ≤ natAbs v
+  pub at-most : natAbs v ≤ high
+  pub kept : natAbs v ≡ whole v
+
+pub inside : (v : ℤ) (low high : ℕ) → ltZ v (pos low) ≡ false → ltZ (pos high) v ≡ false → Inside v low high
+inside (pos n) low high l h = record { nonnegative = tt; at-least = ltb-false n low l; at-most = ltb-false high n h; kept = refl }
+inside (negsuc n) low high l h = absurd (subst T l tt)
+
+beyond-at-most-one : (n : Range) (v : ℤ) → beyond n v ≤ 1
+beyond-at-most-one n v = by-tests (ltZ v (pos (n .low))) (ltZ (pos (n .high)) v)
+  where
+    by-tests : (l h : Bool) → elim l [ true ↦ 1 | false ↦ elim h [ true ↦ 1 | false ↦ 0 ] ] ≤ 1
+    by-tests true h = omega arith
+    by-tests false true = omega arith
+    by-tests false false = omega arith
+
+clipped-within : (n : Range) (v : ℤ) → n .low ≤ n .high → (n .low ≤ clipped n v) × (clipped n v ≤ n .high)
+clipped-within n v h = by-tests (ltZ v (pos (n .low))) (ltZ (pos (n .high)) v) refl refl
+  where
+    by-tests : (l t : Bool) → ltZ v (pos (n .low)) ≡ l → ltZ (pos (n .high)) v ≡ t →
+        let k : ℕ = elim l [ true ↦ n .low | false ↦ elim t [ true ↦ n .high | false ↦ whole v ] ] in
+        (n .low ≤ k) × (k ≤ n .high)
+    by-tests true t e f = (le-refl (n .low), h)
+    by-tests false true e f = (h, le-refl (n .high))
+    by-tests false false e f = let k = inside v (n .low) (n .high) e f in (omega (arith, k .at-least, k .kept), omega (arith, k .at-most, k .kept))
+
+-- of any words at all
+pub clipped-at-most-three : (x : Matrix) (s : ℕ) (w : Words) → codesAt x s w .count ≤ 3
+unfolding codesAt
+clipped-at-most-three x s w =
+    let n : Range = record { low = 16 * s; high = 235 * s } in
+    let r : beyond n (rounded (redOf x s w)) ≤ 1 = beyond-at-most-one n (rounded (redOf x s w)) in
+    let g : beyond n (rounded (greenOf x s w)) ≤ 1 = beyond-at-most-one n (rounded (greenOf x s w)) in
+    let b : beyond n (rounded (blueOf x s w)) ≤ 1 = beyond-at-most-one n (rounded (blueOf x s w)) in
+    omega arith
+
+pub codes-nominal : (x : Matrix) (s : ℕ) (w : Words) → NominalCodes s (codesAt x s w .codes)
+unfolding codesAt
+codes-nominal x s w =
+    let n : Range = record { low = 16 * s; high = 235 * s } in
+    let h : 16 * s ≤ 235 * s = omega arith in
+    let r = clipped-within n (rounded (redOf x s w)) h in
+    let g = clipped-within n (rounded (greenOf x s w)) h in
+    let b = clipped-within n (rounded (blueOf x s w)) h in
+    record { r-low = r .0; r-high = r .1; g-low = g .0; g-high = g .1; b-low = b .0; b-high = b .1 }
+
+-- ---- what clipping does to a component that is near a code of the range
+-- v is off the code d by at most 1
+pub record OffByOne (v : ℤ) (d : ℕ) : Type 0 where
+  pub up : ℕ
+  pub down : ℕ
+  pub is : v ≡ subℕ up down
+  pub not-over : up ≤ d + 1 + down
+  pub not-under : d + down ≤ up + 1
+
+pub clipped-nearer : (n : Range) (v : ℤ) (d : ℕ) → n .low ≤ d → d ≤ n .high → OffByOne v d → (clipped n v ≤ d + 1) × (d ≤ clipped n v + 1)
+clipped-nearer n v d l h o = subst (λ (z : ℤ). (clipped n z ≤ d + 1) × (d ≤ clipped n z + 1)) (sym (o .is)) (by-order (below-or-not (o .up) (o .down)))
+  where
+    by-tests : (a : ℕ) → a ≤ d + 1 → d ≤ a + 1 → (x y : Bool) → ltb a (n .low) ≡ x → ltb (n .high) a ≡ y →
+        let k : ℕ = elim x [ true ↦ n .low | false ↦ elim y [ true ↦ n .high | false ↦ a ] ] in
+        (k ≤ d + 1) × (d ≤ k + 1)
+    by-tests a p q true y e f = let t = ltb-true a (n .low) e in (omega arith, omega arith)
+    by-tests a p q false true e f = let t = ltb-true (n .high) a f in (omega arith, omega arith)
+    by-tests a p q false false e f = (p, q)
+
+    by-order : (o .up < o .down) ⊎ (o .down ≤ o .up) → (clipped n (subℕ (o .up) (o .down)) ≤ d + 1) × (d ≤ clipped n (subℕ (o .up) (o .down)) + 1)
+    by-order (inl b) = rw (sub-neg (o .up) (o .down) b) (omega arith, omega arith)
+    by-order (inr b) =
+        let a = o .up - o .down in
+        rw (sub-pos (o .up) (o .down) b) (by-tests a (omega arith) (omega arith) (ltb a (n .low)) (ltb (n .high) a) refl refl)
+
+pub kept-whole : (n : Range) (v : ℤ) (d : ℕ) → n .low ≤ d → d ≤ n .high → v ≡ pos d → (clipped n v ≡ d) × (beyond n v ≡ 0)
+kept-whole n v d l h e =
+    let low : ltZ v (pos (n .low)) ≡ false = ap (λ (z : ℤ). ltZ z (pos (n .low))) e ∙ le-ltb d (n .low) l in
+    let high : ltZ (pos (n .high)) v ≡ false = ap (λ (z : ℤ). ltZ (pos (n .high)) z) e ∙ le-ltb (n .high) d h in
+    let kept : clipped n v ≡ whole v = λ i. elim (low i) [ true ↦ n .low | false ↦ elim (high i) [ true ↦ n .high | false ↦ whole v ] ] in
+    (kept ∙ ap whole e, λ i. elim (low i) [ true ↦ 1 | false ↦ elim (high i) [ true ↦ 1 | false ↦ 0 ] ])

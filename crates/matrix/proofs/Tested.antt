@@ -1,0 +1,36 @@
+-- What the tests of a call show of its codes and words.
+-- Assumes nothing.
+use mathlib.Core.Path.{_≡_}
+use mathlib.Core.Bool.{true}
+use Prim.Native.Nat.{ℕ, _≤_}
+use lib.Dec.{leb, leb→le}
+use lib.Ieee.Fits.{and-l, and-r}
+use Rattle.exact.proofs.Boolean.{holds, each-of-three}
+use Rattle.systems.specs.declared.Codes.{Codes}
+use Rattle.systems.specs.declared.Range.{Range}
+use Rattle.systems.specs.declared.System.{System}
+use Rattle.systems.specs.Systems.{scale, nominal, nominalDifference, within, allWithin}
+use Rattle.systems.proofs.Ranges.{all-nominal}
+use Rattle.matrix.specs.declared.Words.{Words}
+use Rattle.matrix.specs.Triples.{wordsWithin}
+use Rattle.matrix.specs.Rows.{NominalCodes, NominalWords}
+
+in-range : (n : Range) (d : ℕ) → within n d ≡ true → (n .low ≤ d) × (d ≤ n .high)
+in-range n d e =
+    let low = leb (n .low) d in
+    let high = leb d (n .high) in
+    let t = holds e in
+    (leb→le (n .low) d (and-l low high t), leb→le d (n .high) (and-r low high t))
+
+pub nominal-codes : (y : System) (c : Codes) → allWithin (nominal y) c ≡ true → NominalCodes (scale y) c
+nominal-codes y c e =
+    let n = all-nominal y c e in
+    record { r-low = n .0 .0; r-high = n .0 .1; g-low = n .1 .0; g-high = n .1 .1; b-low = n .2 .0; b-high = n .2 .1 }
+
+pub nominal-words : (y : System) (w : Words) → wordsWithin y w ≡ true → NominalWords (scale y) w
+nominal-words y w e =
+    let t = each-of-three (within (nominal y) (w .y)) (within (nominalDifference y) (w .cb)) (within (nominalDifference y) (w .cr)) e in
+    let n = in-range (nominal y) (w .y) (t .0) in
+    let b = in-range (nominalDifference y) (w .cb) (t .1) in
+    let r = in-range (nominalDifference y) (w .cr) (t .2) in
+    record { y-low = n .0; y-high = n .1; cb-low = b .0; cb-high = b .1; cr-low = r .0; cr-high = r .1 }

@@ -1,0 +1,60 @@
+use mathlib.Core.Path.{_∙_, sym}
+use borrow.Author.Needs.{needs}
+use Rattle.systems.proofs.Scales.{scale-range}
+use Rattle.matrix.proofs.Tested.{nominal-words}
+use Rattle.matrix.proofs.codes_of_words.Statement.{statement}
+use Rattle.matrix.proofs.codes_of_words.Tie as tie
+
+from-number-requires : tie.Need-from-number-requires
+from-number-requires c κs = search needs
+
+enum-known-y : tie.Need-enum-known-y
+enum-known-y c = search needs
+
+nominal-in-requires : tie.Need-nominal-in-requires
+nominal-in-requires c κs = search needs
+
+matrix-requires : tie.Need-matrix-requires
+matrix-requires c κs = search needs
+
+scale-requires : tie.Need-scale-requires
+scale-requires c κs = search needs
+
+codes-in-requires : tie.Need-codes-in-requires
+codes-in-requires c κs =
+    let tested = c .before .before .before in
+    let named = tested .before .before in
+    let y = named .y .given .0 .0 in
+    rw (c .scale .ensures) (scale-range y .1, nominal-words y (named .before .before .before .args .words) (sym (tested .nominal-in .ensures) ∙ c .before .before .if1 .taken))
+
+enum-told : tie.Need-enum-told
+enum-told c = search needs
+
+returns : tie.Need-returns
+returns c =
+    let tested = c .before .before .before .before in
+    let named = tested .before .before in
+    rw (sym (named .before .before .from-number .ensures), named .y .given .1, sym (tested .nominal-in .ensures) ∙ c .before .before .before .if1 .taken, c .codes-in .ensures, c .before .scale .ensures, c .before .before .matrix .ensures)
+
+returns-2 : tie.Need-returns-2
+returns-2 c =
+    let named = c .before .before .before in
+    rw (sym (named .before .before .from-number .ensures), named .y .given .1, sym (c .before .nominal-in .ensures) ∙ c .if1 .left)
+
+returns-3 : tie.Need-returns-3
+returns-3 c = rw (sym (c .before .before .from-number .ensures), c .enum-told .given .1)
+
+pub codes-of-words-spec : {M : Type 1} → statement M
+codes-of-words-spec =
+    tie.close
+    (tie.spec
+    from-number-requires
+    enum-known-y
+    nominal-in-requires
+    matrix-requires
+    scale-requires
+    codes-in-requires
+    enum-told
+    returns
+    returns-2
+    returns-3)

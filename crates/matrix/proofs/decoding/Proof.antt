@@ -1,0 +1,104 @@
+use mathlib.Core.Path.{refl}
+use mathlib.Core.Logic.{_⊎_, inl, inr}
+use lib.Dec.{lit<}
+use borrow.Author.Needs.{needs}
+use Rattle.systems.specs.declared.Matrix.the-variants.{Bt709, Bt2020}
+use Rattle.matrix.specs.Rows.{decodingRows}
+use Rattle.matrix.proofs.Weights.{Row, row-of}
+use Rattle.matrix.proofs.decoding.Statement.{statement}
+use Rattle.matrix.proofs.decoding.Tie as tie
+
+row : (c : tie.After-weights) → Row Bt709 (c .before .args .x) (c .weights .result) ⊎ Row Bt2020 (c .before .args .x) (c .weights .result)
+row c = row-of (c .before .args .x) (c .weights .result) (c .weights .ensures)
+
+weights-requires : tie.Need-weights-requires
+weights-requires c κs = search needs
+
+mul-y : tie.Need-mul-y
+mul-y c = search needs
+
+mul-cr : tie.Need-mul-cr
+mul-cr c = search needs
+
+sub-cr : tie.Need-sub-cr
+sub-cr c = elim (row (c .before .before)) [
+  | inl e ↦ rw (e .1) record { sfits = lit< tt }
+  | inr e ↦ rw (e .1) record { sfits = lit< tt }
+]
+
+mul-cr-2 : tie.Need-mul-cr-2
+mul-cr-2 c = elim (row (c .before .before)) [
+  | inl e ↦ rw (e .1) record { sfits = lit< tt }
+  | inr e ↦ rw (e .1) record { sfits = lit< tt }
+]
+
+mul-cb : tie.Need-mul-cb
+mul-cb c = search needs
+
+sub-cb : tie.Need-sub-cb
+sub-cb c = elim (row (c .before .before .before .before)) [
+  | inl e ↦ rw (e .1) record { sfits = lit< tt }
+  | inr e ↦ rw (e .1) record { sfits = lit< tt }
+]
+
+mul-cb-2 : tie.Need-mul-cb-2
+mul-cb-2 c = elim (row (c .before .before .before .before)) [
+  | inl e ↦ rw (e .1) record { sfits = lit< tt }
+  | inr e ↦ rw (e .1) record { sfits = lit< tt }
+]
+
+mul-t6 : tie.Need-mul-t6
+mul-t6 c = elim (row (c .before .before .before .before .before .before)) [
+  | inl e ↦ rw (e .1) record { sfits = lit< tt }
+  | inr e ↦ rw (e .1) record { sfits = lit< tt }
+]
+
+mul-t7 : tie.Need-mul-t7
+mul-t7 c = elim (row (c .before .before .before .before .before .before .before .before)) [
+  | inl e ↦ rw (e .1) record { sfits = lit< tt }
+  | inr e ↦ rw (e .1) record { sfits = lit< tt }
+]
+
+sub-t9 : tie.Need-sub-t9
+sub-t9 c = elim (row (c .before .before .before .before .before .before .before .before)) [
+  | inl e ↦ rw (e .1) record { sfits = lit< tt }
+  | inr e ↦ rw (e .1) record { sfits = lit< tt }
+]
+
+mul-t10 : tie.Need-mul-t10
+mul-t10 c = elim (row (c .before .before .before .before .before .before .before .before .before .before)) [
+  | inl e ↦ rw (e .1) record { sfits = lit< tt }
+  | inr e ↦ rw (e .1) record { sfits = lit< tt }
+]
+
+sub-t11 : tie.Need-sub-t11
+sub-t11 c = elim (row (c .before .before .before .before .before .before .before .before .before .before)) [
+  | inl e ↦ rw (e .1) record { sfits = lit< tt }
+  | inr e ↦ rw (e .1) record { sfits = lit< tt }
+]
+
+returns : tie.Need-returns
+unfolding decodingRows
+returns c = elim (row (c .before .before .before .before .before .before .before .before .before .before)) [
+  | inl e ↦ rw (e .0, e .1) refl
+  | inr e ↦ rw (e .0, e .1) refl
+]
+
+pub decoding-spec : {M : Type 1} → statement M
+decoding-spec =
+    tie.close
+    (tie.spec
+    weights-requires
+    mul-y
+    mul-cr
+    sub-cr
+    mul-cr-2
+    mul-cb
+    sub-cb
+    mul-cb-2
+    mul-t6
+    mul-t7
+    sub-t9
+    mul-t10
+    sub-t11
+    returns)

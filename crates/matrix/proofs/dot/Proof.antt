@@ -1,0 +1,133 @@
+use mathlib.Core.Path.{_≡_}
+use Prim.Native.Nat.{ℕ, _+_, _*_, _^_, _≤_}
+use native.Mathlib.Omega.{arith}
+use lib.IntN.{ℤ, pos, natAbs, _+ℤ_, _*ℤ_}
+use lib.ListN.{getD}
+use mir.Syntax.{w64}
+use mir.Val.{toZ, ofZ}
+use borrow.Author.Needs.{needs}
+use Rattle.exact.proofs.Machine.{natAbs-add, natAbs-mul-le, fits-i64, reads-back}
+use Rattle.matrix.proofs.dot.Statement.{statement}
+use Rattle.matrix.proofs.dot.Tie as tie
+
+module _ (s : tie.Start) where
+  abbrev row : ℕ → ℤ
+  row k = getD (s .args .t1) k (pos 0)
+
+  abbrev triple : ℕ → ℤ
+  triple k = getD (s .args .t2) k (pos 0)
+
+  abbrev product : ℕ → ℤ
+  product k = row k *ℤ triple k
+
+  read : (z : ℤ) → natAbs z ≤ 2 ^ 60 → toZ w64 (ofZ w64 z) ≡ z
+  read z h = reads-back z (omega arith)
+
+  size-0 : natAbs (product 0) ≤ 2 ^ 40 * 2 ^ 16
+  size-0 = natAbs-mul-le (row 0) (triple 0) (2 ^ 40) (2 ^ 16) (s .pre .row-0) (s .pre .triple-0)
+
+  size-1 : natAbs (product 1) ≤ 2 ^ 40 * 2 ^ 16
+  size-1 = natAbs-mul-le (row 1) (triple 1) (2 ^ 40) (2 ^ 16) (s .pre .row-1) (s .pre .triple-1)
+
+  size-2 : natAbs (product 2) ≤ 2 ^ 40 * 2 ^ 16
+  size-2 = natAbs-mul-le (row 2) (triple 2) (2 ^ 40) (2 ^ 16) (s .pre .row-2) (s .pre .triple-2)
+
+  size-sum : natAbs (product 0 +ℤ product 1) ≤ 2 ^ 58
+  size-sum = omega (arith, natAbs-add (product 0) (product 1), size-0, size-1)
+
+  size-all : natAbs (product 0 +ℤ product 1 +ℤ product 2) ≤ 2 ^ 59
+  size-all = omega (arith, natAbs-add (product 0 +ℤ product 1) (product 2), size-sum, size-2)
+
+  row-0 : toZ w64 (ofZ w64 (row 0)) ≡ row 0
+  row-0 = read (row 0) (omega (arith, s .pre .row-0))
+
+  row-1 : toZ w64 (ofZ w64 (row 1)) ≡ row 1
+  row-1 = read (row 1) (omega (arith, s .pre .row-1))
+
+  row-2 : toZ w64 (ofZ w64 (row 2)) ≡ row 2
+  row-2 = read (row 2) (omega (arith, s .pre .row-2))
+
+  triple-0 : toZ w64 (ofZ w64 (triple 0)) ≡ triple 0
+  triple-0 = read (triple 0) (omega (arith, s .pre .triple-0))
+
+  triple-1 : toZ w64 (ofZ w64 (triple 1)) ≡ triple 1
+  triple-1 = read (triple 1) (omega (arith, s .pre .triple-1))
+
+  triple-2 : toZ w64 (ofZ w64 (triple 2)) ≡ triple 2
+  triple-2 = read (triple 2) (omega (arith, s .pre .triple-2))
+
+  product-0 : toZ w64 (ofZ w64 (product 0)) ≡ product 0
+  product-0 = read (product 0) (omega (arith, size-0))
+
+  product-1 : toZ w64 (ofZ w64 (product 1)) ≡ product 1
+  product-1 = read (product 1) (omega (arith, size-1))
+
+  product-2 : toZ w64 (ofZ w64 (product 2)) ≡ product 2
+  product-2 = read (product 2) (omega (arith, size-2))
+
+  sum-01 : toZ w64 (ofZ w64 (product 0 +ℤ product 1)) ≡ product 0 +ℤ product 1
+  sum-01 = read (product 0 +ℤ product 1) (omega (arith, size-sum))
+
+  sum-012 : toZ w64 (ofZ w64 (product 0 +ℤ product 1 +ℤ product 2)) ≡ product 0 +ℤ product 1 +ℤ product 2
+  sum-012 = read (product 0 +ℤ product 1 +ℤ product 2) (omega (arith, size-all))
+
+array-copy-out-result : tie.Need-array-copy-out-result
+array-copy-out-result c = search needs
+
+array-copy-out-result-2 : tie.Need-array-copy-out-result-2
+array-copy-out-result-2 c = search needs
+
+mul-result : tie.Need-mul-result
+mul-result c = let s = c .before .before in rw (row-0 s, triple-0 s) (fits-i64 (product s 0) (omega (arith, size-0 s)))
+
+array-copy-out-result-3 : tie.Need-array-copy-out-result-3
+array-copy-out-result-3 c = search needs
+
+array-copy-out-result-4 : tie.Need-array-copy-out-result-4
+array-copy-out-result-4 c = search needs
+
+mul-result-2 : tie.Need-mul-result-2
+mul-result-2 c = let s = c .before .before .before .before in rw (row-1 s, triple-1 s) (fits-i64 (product s 1) (omega (arith, size-1 s)))
+
+add-result : tie.Need-add-result
+add-result c =
+    let s = c .before .before .before .before in
+    rw (row-0 s, triple-0 s, row-1 s, triple-1 s, product-0 s, product-1 s)
+    (fits-i64 (product s 0 +ℤ product s 1) (omega (arith, size-sum s)))
+
+array-copy-out-result-5 : tie.Need-array-copy-out-result-5
+array-copy-out-result-5 c = search needs
+
+array-copy-out-result-6 : tie.Need-array-copy-out-result-6
+array-copy-out-result-6 c = search needs
+
+mul-result-3 : tie.Need-mul-result-3
+mul-result-3 c = let s = c .before .before .before .before .before .before in rw (row-2 s, triple-2 s) (fits-i64 (product s 2) (omega (arith, size-2 s)))
+
+add-result-2 : tie.Need-add-result-2
+add-result-2 c =
+    let s = c .before .before .before .before .before .before in
+    rw (row-0 s, triple-0 s, row-1 s, triple-1 s, row-2 s, triple-2 s, product-0 s, product-1 s, product-2 s, sum-01 s)
+    (fits-i64 (product s 0 +ℤ product s 1 +ℤ product s 2) (omega (arith, size-all s)))
+
+returns : tie.Need-returns
+returns c =
+    let s = c .before .before .before .before .before .before in
+    rw (row-0 s, triple-0 s, row-1 s, triple-1 s, row-2 s, triple-2 s, product-0 s, product-1 s, product-2 s, sum-01 s, sum-012 s)
+
+pub dot-spec : {M : Type 1} → statement M
+dot-spec =
+    tie.close
+    (tie.spec
+    array-copy-out-result
+    array-copy-out-result-2
+    mul-result
+    array-copy-out-result-3
+    array-copy-out-result-4
+    mul-result-2
+    add-result
+    array-copy-out-result-5
+    array-copy-out-result-6
+    mul-result-3
+    add-result-2
+    returns)

@@ -1,0 +1,72 @@
+-- Each matrix as three rows of three whole numbers by a triple (document 01, 'Triples').
+-- Definitions only.
+use Prim.Native.Nat.{ℕ, _*_, _-_, _^_, _≤_}
+use mathlib.Core.List.{List, [], _∷_}
+use lib.IntN.{ℤ, pos, negℤ, natAbs, _+ℤ_, _*ℤ_}
+use lib.ListN.{getD}
+use Rattle.systems.specs.declared.Matrix.{Matrix}
+use Rattle.systems.specs.Systems.{kr, kg, kb}
+use Rattle.exact.specs.Signed.{Ratio, rounded}
+use Rattle.systems.specs.declared.Codes.{Codes}
+use Rattle.matrix.specs.declared.Words.{Words}
+use Rattle.matrix.specs.Triples.{luma, cbOf, crOf, redOf, greenOf, blueOf}
+
+-- codes and words that are nominal at the scale s
+pub record NominalCodes (s : ℕ) (c : Codes) : Type 0 where
+  pub r-low : 16 * s ≤ c .r
+  pub r-high : c .r ≤ 235 * s
+  pub g-low : 16 * s ≤ c .g
+  pub g-high : c .g ≤ 235 * s
+  pub b-low : 16 * s ≤ c .b
+  pub b-high : c .b ≤ 235 * s
+
+pub record NominalWords (s : ℕ) (w : Words) : Type 0 where
+  pub y-low : 16 * s ≤ w .y
+  pub y-high : w .y ≤ 235 * s
+  pub cb-low : 16 * s ≤ w .cb
+  pub cb-high : w .cb ≤ 240 * s
+  pub cr-low : 16 * s ≤ w .cr
+  pub cr-high : w .cr ≤ 240 * s
+
+-- a row by a triple
+abbrev pub dotted : List ℤ → List ℤ → ℤ
+dotted row t =
+    getD row 0 (pos 0) *ℤ getD t 0 (pos 0) +ℤ getD row 1 (pos 0) *ℤ getD t 1 (pos 0) +ℤ getD row 2 (pos 0) *ℤ getD t 2 (pos 0)
+
+-- by (R, G, B) they give 10000 times Y', B - Y' and R - Y'
+unfoldable pub encodingRows : Matrix → List (List ℤ)
+encodingRows x =
+    (pos (kr x) ∷ pos (kg x) ∷ pos (kb x) ∷ [])
+    ∷ (negℤ (pos (kr x)) ∷ negℤ (pos (kg x)) ∷ pos (10000 - kb x) ∷ [])
+    ∷ (pos (10000 - kr x) ∷ negℤ (pos (kg x)) ∷ negℤ (pos (kb x)) ∷ [])
+    ∷ []
+
+-- Cb or Cr of 10000 times the difference from Y', where own is 10000 less the colour's weight
+abbrev pub colourDifference : ℤ → ℕ → ℕ → Ratio
+colourDifference z own s = record { top = z *ℤ pos 224 +ℤ pos (128 * s * (219 * 2 * own)); bottom = 219 * 2 * own }
+
+-- Y', Cb and Cr as whole numbers
+unfoldable pub componentsAt : Matrix → ℕ → Codes → List ℤ
+componentsAt x s c = rounded (luma x c) ∷ rounded (cbOf x s c) ∷ rounded (crOf x s c) ∷ []
+
+-- the way back: by (Y', cb, cr) they give 224·10000·R, 224·10000·kg·G and 224·10000·B
+unfoldable pub decodingRows : Matrix → List (List ℤ)
+decodingRows x =
+    let y = 224 * 10000 in
+    (pos y ∷ pos 0 ∷ pos (219 * 2 * (10000 - kr x)) ∷ [])
+    ∷ (pos (y * kg x) ∷ negℤ (pos (219 * 2 * kb x * (10000 - kb x))) ∷ negℤ (pos (219 * 2 * kr x * (10000 - kr x))) ∷ [])
+    ∷ (pos y ∷ pos (219 * 2 * (10000 - kb x)) ∷ pos 0 ∷ [])
+    ∷ []
+
+-- a row and a triple whose product an i64 holds
+pub record Small (row t : List ℤ) : Type 0 where
+  pub row-0 : natAbs (getD row 0 (pos 0)) ≤ 2 ^ 40
+  pub row-1 : natAbs (getD row 1 (pos 0)) ≤ 2 ^ 40
+  pub row-2 : natAbs (getD row 2 (pos 0)) ≤ 2 ^ 40
+  pub triple-0 : natAbs (getD t 0 (pos 0)) ≤ 2 ^ 16
+  pub triple-1 : natAbs (getD t 1 (pos 0)) ≤ 2 ^ 16
+  pub triple-2 : natAbs (getD t 2 (pos 0)) ≤ 2 ^ 16
+
+-- R, G and B before they are clipped
+unfoldable pub primariesAt : Matrix → ℕ → Words → List ℤ
+primariesAt x s w = rounded (redOf x s w) ∷ rounded (greenOf x s w) ∷ rounded (blueOf x s w) ∷ []

@@ -2,8 +2,12 @@
 use libc::STDOUT_FILENO;
 use light::CodeSpan;
 use light::LightCode;
+use matrix::Decoded;
+use matrix::Encoded;
+use matrix::Words;
 use signals::Quantised;
 use signals::Signals;
+use systems::Codes;
 use systems::Refusal;
 
 fn main() {
@@ -20,6 +24,14 @@ fn main() {
     ends(4);
     of_signal(1, 0.5, b" E' 0.5:");
     of_signal(2, 0.375, b" E' 0.375:");
+    of_codes(1, 235, 16, 16);
+    of_words(1, 63, 102, 240);
+    of_codes(1, 16, 16, 235);
+    of_words(1, 32, 240, 118);
+    of_codes(1, 16, 235, 16);
+    of_codes(3, 940, 64, 64);
+    of_words(1, 16, 240, 240);
+    of_words(1, 15, 128, 128);
 }
 
 fn ends(system: u32) {
@@ -57,12 +69,34 @@ fn of_span(system: u32, code: u16) {
 fn of_signal(system: u32, e: f32, name: &[u8]) {
     given(system, name);
     match signals::codes_of_signals(system, Signals { r: e, g: e, b: e }) {
-        Quantised::Codes(c) => {
-            value(c.r);
-            value(c.g);
-            value(c.b);
-        }
+        Quantised::Codes(c) => three(c.r, c.g, c.b),
         Quantised::Refused(r) => refused(r),
+    }
+    io::write_all(STDOUT_FILENO, b"\n");
+}
+
+fn of_codes(system: u32, r: u16, g: u16, b: u16) {
+    given(system, b" codes");
+    three(r, g, b);
+    io::write_all(STDOUT_FILENO, b":");
+    match matrix::words_of_codes(system, Codes { r, g, b }) {
+        Encoded::Words(w) => three(w.y, w.cb, w.cr),
+        Encoded::Refused(r) => refused(r),
+    }
+    io::write_all(STDOUT_FILENO, b"\n");
+}
+
+fn of_words(system: u32, y: u16, cb: u16, cr: u16) {
+    given(system, b" words");
+    three(y, cb, cr);
+    io::write_all(STDOUT_FILENO, b":");
+    match matrix::codes_of_words(system, Words { y, cb, cr }) {
+        Decoded::Codes(c) => {
+            three(c.codes.r, c.codes.g, c.codes.b);
+            io::write_all(STDOUT_FILENO, b" clipped ");
+            number(c.count as u64);
+        }
+        Decoded::Refused(r) => refused(r),
     }
     io::write_all(STDOUT_FILENO, b"\n");
 }
@@ -76,6 +110,12 @@ fn given(system: u32, what: &[u8]) {
 fn refused(r: Refusal) {
     io::write_all(STDOUT_FILENO, b" refused ");
     number(r.number() as u64);
+}
+
+fn three(a: u16, b: u16, c: u16) {
+    value(a);
+    value(b);
+    value(c);
 }
 
 fn value(x: u16) {

@@ -30,10 +30,11 @@ number-small Bt2020Bits12 = omega arith
 pub sample-nominal : (y : System) (lights : List ℕ) (i s : ℕ) (c : Codes) → s ≡ scale y → c ≡ sampleCodes y lights i
     → (0 < s) × (s ≤ 16) × NominalCodes s c
 sample-nominal y lights i s c same-scale same-codes =
-    rw (same-scale, same-codes)
-    (scale-range y .0,
-    scale-range y .1,
-    record { r-low = code-low y _; r-high = code-high y _; g-low = code-low y _; g-high = code-high y _; b-low = code-low y _; b-high = code-high y _ })
+    rw (same-scale, same-codes) (
+      scale-range y .0,
+      scale-range y .1,
+      record { r-low = code-low y _; r-high = code-high y _; g-low = code-low y _; g-high = code-high y _; b-low = code-low y _; b-high = code-high y _ },
+    )
 
 -- the words of a sample's codes by the system's matrix are the sample's
 pub sample-words : (y : System) (lights : List ℕ) (i s : ℕ) (c : Codes) (x : Matrix) (r : Words)

@@ -1,8 +1,8 @@
 // The row block of a row of lights (document 01, 'Picture'), made in one pass: each light is looked up once.
 use curve::code_in;
-use matrix::words_2020;
-use matrix::words_709;
 use matrix::Words;
+use matrix::words_709;
+use matrix::words_2020;
 use systems::Codes;
 use systems::System;
 use thresholds::EightBits;

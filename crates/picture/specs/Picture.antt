@@ -32,8 +32,12 @@ heightOk h = leb 1 h && leb h 4320
 abbrev pub begun : System → ℕ → ℕ → Picture
 begun y w h = at (Open (record { system = y; width = w; height = h; rows = 0 }))
 
+-- open in a known system
+abbrev pub beginIn : System → ℕ → ℕ → Outcome Picture
+beginIn y w h = require (widthOk w) 2 (require (heightOk h) 3 (accepted (begun y w h)))
+
 unfoldable pub begin : ℕ → ℕ → ℕ → Outcome Picture
-begin n w h = named n and-then λ y. require (widthOk w) 2 (require (heightOk h) 3 (accepted (begun y w h)))
+begin n w h = named n and-then λ y. beginIn y w h
 
 -- open: allowed when fresh or closed
 abbrev pub openFrom : Phase → ℕ → ℕ → ℕ → Outcome Picture

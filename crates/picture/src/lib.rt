@@ -1,6 +1,17 @@
 // A picture taken row by row (document 01, 'Picture').
+use row::write_row;
+use systems::Named;
 use systems::Refusal;
 use systems::System;
+ghost use mathlib.Core.Path.{_≡_};
+ghost use mathlib.Core.Bool.{_&&_};
+ghost use mathlib.Core.List.{_++_};
+ghost use Prim.Native.Nat.{_+_, _*_, _≤_};
+ghost use lib.Dec.{leb};
+ghost use lib.ListN.{length, drop};
+ghost use Rattle.row.specs.Row.{rowBlock};
+ghost use Rattle.picture.specs.declared.Phase.the-variants.{Fresh};
+ghost use Rattle.picture.specs.Picture.{at, beginIn, begin, opening, rowOpen, rowing, bufferBy, bufferAfter, closing, toldPicture};
 
 // What an open picture was opened with, and how many of its rows were accepted.
 pub struct Opened {
@@ -24,4 +35,121 @@ pub struct Picture {
 pub enum Change {
     To(Picture),
     Refused(Refusal),
+}
+
+const MOST_SAMPLES: u32 = 7680;
+
+const MOST_ROWS: u32 = 4320;
+
+impl Picture {
+    pub fn new() -> Picture
+        ensures { λ r. ⌜ r ≡ at Fresh ⌝ }
+    {
+        Picture {
+            phase: Phase::Fresh,
+        }
+    }
+
+    // Refused: 21, then 1, 2, 3.
+    pub fn open(self, system: u32, width: u32, height: u32) -> Change
+        ensures { λ r. ⌜ toldPicture r ≡ opening self system width height ⌝ }
+    {
+        let phase = self.phase;
+        match phase {
+            Phase::Fresh => begin(system, width, height),
+            Phase::Open(_) => Change::Refused(Refusal::AlreadyOpen),
+            Phase::Closed => begin(system, width, height),
+        }
+    }
+
+    // One block to the front of the buffer. Refused: 22, 23, then 4, 5.
+    pub fn row(self, lights: &[u16], out: &mut [u8]) -> Change
+        ensures { λ r. ⌜ (toldPicture r ≡ rowing self (now (lights .entry)) (length (now (out .entry)))) × (now (out .exit) ≡ bufferAfter self (now (lights .entry)) (now (out .entry))) ⌝ }
+    {
+        let phase = self.phase;
+        match phase {
+            Phase::Fresh => Change::Refused(Refusal::NotOpen),
+            Phase::Open(o) => next_row(o, lights, out),
+            Phase::Closed => Change::Refused(Refusal::NotOpen),
+        }
+    }
+
+    // Refused: 22, then 24.
+    pub fn close(self) -> Change
+        ensures { λ r. ⌜ toldPicture r ≡ closing self ⌝ }
+    {
+        let phase = self.phase;
+        match phase {
+            Phase::Fresh => Change::Refused(Refusal::NotOpen),
+            Phase::Open(o) => {
+                if o.rows == o.height {
+                    Change::To(Picture {
+                        phase: Phase::Closed,
+                    })
+                } else {
+                    Change::Refused(Refusal::RowsMissing)
+                }
+            }
+            Phase::Closed => Change::Refused(Refusal::NotOpen),
+        }
+    }
+}
+
+fn begin(system: u32, width: u32, height: u32) -> Change
+    ensures { λ r. ⌜ toldPicture r ≡ begin system width height ⌝ }
+{
+    match System::from_number(system) {
+        Named::Known(y) => begin_in(y, width, height),
+        Named::Unknown => Change::Refused(Refusal::System),
+    }
+}
+
+fn begin_in(y: System, width: u32, height: u32) -> Change
+    ensures { λ r. ⌜ toldPicture r ≡ beginIn y width height ⌝ }
+{
+    if !is_size(width, MOST_SAMPLES) {
+        return Change::Refused(Refusal::Width);
+    }
+    if !is_size(height, MOST_ROWS) {
+        return Change::Refused(Refusal::Height);
+    }
+    Change::To(Picture {
+        phase: Phase::Open(Opened {
+            system: y,
+            width: width as u16,
+            height: height as u16,
+            rows: 0,
+        }),
+    })
+}
+
+fn next_row(o: Opened, lights: &[u16], out: &mut [u8]) -> Change
+    ensures { λ r. ⌜ (toldPicture r ≡ rowOpen o (now (lights .entry)) (length (now (out .entry)))) × (now (out .exit) ≡ bufferBy (rowOpen o (now (lights .entry)) (length (now (out .entry)))) o (now (lights .entry)) (now (out .entry))) ⌝ }
+{
+    if o.height <= o.rows {
+        return Change::Refused(Refusal::AllRows);
+    }
+    if lights.len() != 3 * o.width as usize {
+        return Change::Refused(Refusal::Lights);
+    }
+    if out.len() < 9 + 6 * o.width as usize {
+        return Change::Refused(Refusal::Output);
+    }
+    let system = o.system;
+    write_row(system, o.rows, o.width, lights, out);
+    Change::To(Picture {
+        phase: Phase::Open(Opened {
+            system,
+            width: o.width,
+            height: o.height,
+            rows: o.rows + 1,
+        }),
+    })
+}
+
+// From 1 to the most that there may be.
+fn is_size(size: u32, most: u32) -> bool
+    ensures { λ r. ⌜ r ≡ (leb 1 size && leb size most) ⌝ }
+{
+    1 <= size && size <= most
 }

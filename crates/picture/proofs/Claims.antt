@@ -1,0 +1,143 @@
+-- What demand 3 says of a list of calls, in document 01's words ('Picture', 'Light to code', 'Triples').
+-- Definitions only.
+use Prim.Native.Nat.{ℕ, _+_, _*_, _-_, _≤_, _<_}
+use mathlib.Core.Path.{_≡_}
+use mathlib.Core.Bool.{true, false}
+use mathlib.Core.List.{List, [], _∷_, _++_}
+use lib.Dec.{leb}
+use lib.IntN.{pos}
+use lib.ListN.{length, take, getD}
+use contract.Lifetimes.{Lfts}
+use denote.Ref.{RefT, now}
+use Rattle.exact.specs.Outcome as outcome
+use Rattle.exact.specs.Outcome.{Outcome}
+use Rattle.exact.specs.Signed.{Ratio}
+use Rattle.exact.proofs.Nearest.{Near}
+use Rattle.systems.specs.declared.Codes.{Codes}
+use Rattle.systems.specs.declared.System.{System}
+use Rattle.systems.specs.Systems.{number, matrix, scale, timing}
+use Rattle.curve.specs.Curve.{code, leastLight, greatestLight}
+use Rattle.matrix.specs.declared.Words.{Words}
+use Rattle.matrix.specs.Triples.{luma, cbOf, crOf}
+use Rattle.block.specs.declared.Header.{Header}
+use Rattle.block.specs.declared.BlockRead.{BlockRead}
+use Rattle.block.specs.Read.{sampleAt, toldHeader}
+use Rattle.block.proofs.read_block.Reads as read-call
+use Rattle.picture.specs.declared.Opened.{Opened}
+use Rattle.picture.specs.declared.Phase.{Phase}
+use Rattle.picture.specs.declared.Phase.the-variants.{Fresh, Open, Closed}
+use Rattle.picture.specs.declared.Picture.{Picture}
+use Rattle.picture.specs.Book.{Call, State, fresh, opened, closed, Entry, Heard, accepted, refused, next, heardFrom, entriesFrom}
+use Rattle.picture.proofs.Calls.{Lent}
+
+abbrev pub WithinOne : ℕ → ℕ → Type 0
+WithinOne a b = (a ≤ b + 1) × (b ≤ a + 1)
+
+-- the code below and the code above; where it would leave 16s to 235s, the end code itself
+abbrev pub below : System → ℕ → ℕ
+below y d = elim (leb d (16 * scale y)) [ true ↦ d | false ↦ d - 1 ]
+
+abbrev pub above : System → ℕ → ℕ
+above y d = elim (leb (235 * scale y) d) [ true ↦ d | false ↦ d + 1 ]
+
+-- the code d was read for the light k
+pub record ReadCode (y : System) (k d : ℕ) : Type 0 where
+  -- it is within one code of the light's exact quantised value
+  pub near : WithinOne d (code y k)
+  -- the light lies between the least light of the code below and the greatest light of the code above, both included
+  pub from : leastLight y (below y d) ≤ k
+  pub to : k ≤ greatestLight y (above y d)
+
+-- the word v is stored for the exact rational q
+pub record StoredWord (y : System) (q : Ratio) (v : ℕ) : Type 0 where
+  -- within half a code of it
+  pub near : Near (pos v) q
+  pub no-timing : timing y v ≡ false
+
+-- the codes of sample i's lights, R, G and B
+abbrev pub codesOf : System → List ℕ → ℕ → Codes
+codesOf y lights i = record { r = code y (getD lights (3 * i) 0); g = code y (getD lights (3 * i + 1) 0); b = code y (getD lights (3 * i + 2) 0) }
+
+-- the words that are stored for a sample of the codes c
+pub record StoredSample (y : System) (c : Codes) (v : Words) : Type 0 where
+  pub luma-word : StoredWord y (luma (matrix y) c) (v .y)
+  pub cb-word : StoredWord y (cbOf (matrix y) (scale y) c) (v .cb)
+  pub cr-word : StoredWord y (crOf (matrix y) (scale y) c) (v .cr)
+
+-- a reading of the entry's block heard r, and left these words in the slice
+pub record Read (e : Entry) (y : System) (r : Outcome Header) (slice : List ℕ) : Type 0 where
+  -- it is accepted
+  pub header : Header
+  pub heard : r ≡ outcome.accepted header
+  -- with its entry's system, width and row number
+  pub system : header .system ≡ y
+  pub width : header .samples ≡ e .width
+  pub row : header .row ≡ e .row
+  -- the code at place j is that of the light at place j
+  pub codes : (j : ℕ) → j < 3 * e .width → ReadCode y (getD (e .lights) j 0) (getD slice j 0)
+
+-- the bytes are the block of an entry
+pub record ReadsBack (bytes : List ℕ) (e : Entry) : Type 0 where
+  -- the entry's system
+  pub system : System
+  pub numbered : number system ≡ e .system
+  -- it is whole
+  pub size : length bytes ≡ 9 + 6 * e .width
+  -- every stored word is within half a code of its exact rational for the codes of its sample's lights, and none is a timing code
+  pub words : (i : ℕ) → i < e .width → StoredSample system (codesOf system (e .lights) i) (sampleAt bytes (e .width) i)
+  -- whatever a reading returns that is lent these bytes and a slice of at least 3·width words
+  pub reads : (κs : Lfts 2) (bytes₀ codes₀ bytes₁ codes₁ : RefT (List ℕ)) (r : BlockRead) → now bytes₀ ≡ bytes → 3 * e .width ≤ length (now codes₀)
+      → read-call.Post κs (bytes₀, (codes₀, tt)) r (bytes₁, (codes₁, tt)) → Read e system (toldHeader r) (now codes₁)
+
+-- the buffers that accepted rows left, and as many entries: the first 9 + 6·width bytes of each are its entry's block
+pub data Blocks : List (List ℕ) → List Entry → Type 0 where
+  none : Blocks [] []
+  one : {b : List ℕ} {e : Entry} {bs : List (List ℕ)} {es : List Entry} → ReadsBack (take (9 + 6 * e .width) b) e → Blocks bs es → Blocks (b ∷ bs) (e ∷ es)
+
+-- the buffers of the accepted rows, as their calls left them
+abbrev pub keptBy : Heard → List ℕ → List (List ℕ)
+keptBy accepted b = b ∷ []
+keptBy (refused n) b = []
+
+unfoldable pub kept : List Lent → List (List ℕ)
+kept [] = []
+kept (l ∷ ls) = keptBy (l .heard) (l .after) ++ kept ls
+
+-- the refused rows left their buffers as they were
+unfoldable pub Unchanged : List Lent → Type 0
+Unchanged [] = Unit {0}
+Unchanged (l ∷ ls) = ((n : ℕ) → l .heard ≡ refused n → l .after ≡ l .before) × Unchanged ls
+
+-- the book's state at a picture
+abbrev pub stateOf : Phase → State
+stateOf Fresh = fresh
+stateOf (Open o) = opened (record { system = number (o .system); width = o .width; height = o .height; count = o .rows })
+stateOf Closed = closed
+
+-- the book's state after a list of calls
+unfoldable pub stateFrom : State → List Call → State
+stateFrom st [] = st
+stateFrom st (c ∷ cs) = stateFrom (next st c) cs
+
+-- from the book's state st: what a list of calls comes to
+pub record Demanded (st : State) (cs : List Call) (hs : List Heard) (ls : List Lent) (q : Picture) : Type 0 where
+  -- exactly the calls that the row book accepts were accepted, and the rest were refused with its numbers
+  pub heard : hs ≡ heardFrom st cs
+  -- a refused call changed neither the picture, which is where the book is, nor a buffer
+  pub state : stateOf (q .phase) ≡ stateFrom st cs
+  pub unchanged : Unchanged ls
+  -- the blocks of the accepted rows, in order, are those of the book's entries
+  pub blocks : Blocks (kept ls) (entriesFrom st cs)
+
+-- a width of 1 to 7680, a height of 1 to 4320, and no more rows than the height
+pub record Sized (o : Opened) : Type 0 where
+  pub width-from : 1 ≤ o .width
+  pub width-to : o .width ≤ 7680
+  pub height-from : 1 ≤ o .height
+  pub height-to : o .height ≤ 4320
+  pub rows-to : o .rows ≤ o .height
+
+abbrev pub Proper : Phase → Type 0
+Proper Fresh = Unit {0}
+Proper (Open o) = Sized o
+Proper Closed = Unit {0}

@@ -1,0 +1,9 @@
+mod Ranges
+pub mod Calls
+pub mod Claims
+mod Neighbours
+mod Rows
+pub mod Steps
+pub mod Demand
+pub mod Histories
+pub mod Whole

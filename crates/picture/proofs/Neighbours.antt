@@ -1,0 +1,56 @@
+-- A light whose code is within one code of another lies between the lights of that code's neighbours.
+-- Assumes nothing.
+use Prim.Native.Nat.{ℕ, _+_, _*_, _-_, _≤_, _<_}
+use mathlib.Core.Path.{_≡_, refl, subst}
+use mathlib.Core.Logic.{_⊎_, inl, inr}
+use native.Mathlib.Omega.{arith}
+use lib.Dec.{leb}
+use borrow.Author.Tests.{le-leb, lt-leb}
+use Rattle.exact.proofs.Order.{below-or-not}
+use Rattle.systems.specs.declared.System.{System}
+use Rattle.systems.specs.Systems.{scale}
+use Rattle.systems.proofs.Ranges.{Nominal}
+use Rattle.curve.specs.Curve.{code, fullLight, leastLight, greatestLight}
+use Rattle.curve.proofs.Lights.{code-low, code-high, codes-rise}
+use Rattle.light.proofs.Lit.{Lit, every-code-lit}
+use Rattle.light.proofs.Spans.{least-has, least-first, greatest-has, greatest-last, greatest-light}
+use Rattle.picture.proofs.Claims.{WithinOne, below, above}
+
+lit : (y : System) (d : ℕ) → Nominal y d → Lit y d
+lit y d n =
+    let e : 16 * scale y + (d - 16 * scale y) ≡ d = omega arith in
+    subst (Lit y) e (every-code-lit y (d - 16 * scale y) (omega arith))
+
+module _ (y : System) (k d : ℕ) (light : k ≤ fullLight) (nominal : Nominal y d) where
+  least-before : d ≤ code y k → leastLight y d ≤ k
+  least-before h = go (below-or-not k (leastLight y d))
+    where
+      go : (k < leastLight y d) ⊎ (leastLight y d ≤ k) → leastLight y d ≤ k
+      go (inl l) =
+          let e : code y k ≡ d = omega (arith, least-has y d (lit y d nominal), codes-rise y k (leastLight y d) (omega arith)) in
+          least-first y d (lit y d nominal) k light e
+      go (inr l) = l
+
+  greatest-after : code y k ≤ d → k ≤ greatestLight y d
+  greatest-after h = go (below-or-not (greatestLight y d) k)
+    where
+      go : (greatestLight y d < k) ⊎ (k ≤ greatestLight y d) → k ≤ greatestLight y d
+      go (inl l) =
+          let e : code y k ≡ d = omega (arith, greatest-has y d (lit y d nominal), codes-rise y (greatestLight y d) k (omega arith)) in
+          greatest-last y d (lit y d nominal) k light e
+      go (inr l) = l
+
+module _ (y : System) (k d : ℕ) (light : k ≤ fullLight) (nominal : Nominal y d) (near : WithinOne d (code y k)) where
+  pub from-below : leastLight y (below y d) ≤ k
+  from-below = go (below-or-not (16 * scale y) d)
+    where
+      go : (16 * scale y < d) ⊎ (d ≤ 16 * scale y) → leastLight y (below y d) ≤ k
+      go (inl h) = rw (lt-leb d (16 * scale y) h, below) (least-before y k (d - 1) light (omega arith) (omega arith))
+      go (inr h) = rw (le-leb d (16 * scale y) h, below) (least-before y k d light nominal (omega (arith, code-low y k)))
+
+  pub to-above : k ≤ greatestLight y (above y d)
+  to-above = go (below-or-not d (235 * scale y))
+    where
+      go : (d < 235 * scale y) ⊎ (235 * scale y ≤ d) → k ≤ greatestLight y (above y d)
+      go (inl h) = rw (lt-leb (235 * scale y) d h, above) (greatest-after y k (d + 1) light (omega arith) (omega arith))
+      go (inr h) = rw (le-leb (235 * scale y) d h, above) (greatest-after y k d light nominal (omega (arith, code-high y k)))

@@ -1,0 +1,13 @@
+-- What a test of a size shows.
+-- Assumes nothing.
+use mathlib.Core.Path.{_≡_}
+use mathlib.Core.Bool.{Bool, true, false, _&&_}
+use Prim.Native.Nat.{ℕ, _≤_}
+use lib.Dec.{T, leb, leb→le}
+use lib.Ieee.Fits.{and-l, and-r}
+use Rattle.exact.proofs.Boolean.{holds}
+
+pub in-range : (n low high : ℕ) → (leb low n && leb n high) ≡ true → (low ≤ n) × (n ≤ high)
+in-range n low high e =
+    let t = holds e in
+    (leb→le low n (and-l (leb low n) (leb n high) t), leb→le n high (and-r (leb low n) (leb n high) t))

@@ -1,0 +1,218 @@
+-- The block of a row of lights: what is stored in it, and what reading it gives.
+-- Assumes nothing.
+use Prim.Native.Nat.{ℕ, zero, suc, _+_, _*_, _≤_, _<_}
+use mathlib.Core.Path.{_≡_, refl, sym, ap, subst, _∙_}
+use mathlib.Core.Bool.{true}
+use mathlib.Core.Logic.{_⊎_, inl, inr}
+use mathlib.Core.List.{List, [], _∷_, _++_}
+use native.Mathlib.Omega.{arith}
+use lib.ListN.{length, getD, drop, length-append, List·getD-append}
+use lib.Seq.{getD-append-add}
+use denote.Ref.{now}
+use borrow.Author.Tests.{le-leb}
+use Rattle.exact.specs.Outcome.{accepted}
+use Rattle.exact.proofs.Order.{below-or-not}
+use Rattle.systems.specs.declared.Codes.{Codes}
+use Rattle.systems.specs.declared.System.{System}
+use Rattle.systems.specs.declared.System.the-variants.{Bt709Bits8, Bt709Bits10, Bt2020Bits10, Bt2020Bits12}
+use Rattle.systems.specs.Systems.{number, named, matrix, scale, nominal, allWithin}
+use Rattle.systems.proofs.Ranges.{Nominal}
+use Rattle.curve.specs.Curve.{code}
+use Rattle.curve.proofs.Lights.{code-low, code-high}
+use Rattle.matrix.specs.declared.Clipped.{Clipped}
+use Rattle.matrix.specs.declared.Words.{Words}
+use Rattle.matrix.specs.Rows.{NominalCodes, NominalWords}
+use Rattle.matrix.specs.Triples.{wordsAt, codesAt, wordsWithin}
+use Rattle.matrix.proofs.Clipping.{codes-nominal}
+use Rattle.matrix.proofs.Nominal.{words-nominal, word-near, no-timing-code}
+use Rattle.matrix.proofs.Return.{codes-return-within-one}
+use Rattle.block.specs.declared.Header.{Header}
+use Rattle.block.specs.Block.{sampleOf}
+use Rattle.block.specs.Read.{sampleAt, decoded, codesTo, clippedTo, headerOf, sliceAfter, toldHeader}
+use Rattle.block.proofs.Decoding.{length-codes}
+use Rattle.block.proofs.ReadBack.{NominalRow, block-length, block-samples, block-reads-back, block-decodes-back}
+use Rattle.row.specs.Row.{sampleCodes, sampleWords, listed, rowBlock}
+use Rattle.picture.proofs.Calls.{Lights}
+use Rattle.picture.proofs.Claims.{WithinOne, ReadCode, StoredSample, codesOf, ReadsBack}
+use Rattle.picture.proofs.Neighbours.{from-below, to-above}
+
+-- ---- lists
+
+length-listed : (f : ℕ → ℕ) (n : ℕ) → length (listed f n) ≡ n
+unfolding listed
+length-listed f zero = refl
+length-listed f (suc n) = simp length-append (omega (arith, length-listed f n))
+
+listed-at : (f : ℕ → ℕ) (n i : ℕ) → i < n → getD (listed f n) i 0 ≡ f i
+unfolding listed
+listed-at f zero i h = absurd (omega arith)
+listed-at f (suc n) i h = go (listed-at f n i) (below-or-not i n)
+  where
+    go : (i < n → getD (listed f n) i 0 ≡ f i) → (i < n) ⊎ (n ≤ i) → getD (listed f n ++ f n ∷ []) i 0 ≡ f i
+    go before (inl l) = List·getD-append (listed f n) (f n ∷ []) 0 i (omega (arith, length-listed f n)) ∙ before l
+    go before (inr l) =
+        let e : i ≡ length (listed f n) + 0 = omega (arith, length-listed f n) in
+        let same : n ≡ i = omega arith in
+        ap (λ (j : ℕ). getD (listed f n ++ f n ∷ []) j 0) e ∙ getD-append-add (listed f n) (f n ∷ []) 0 0 ∙ ap f same
+
+-- what holds of each sample's three codes at their places holds of every code of a row
+module _ (row : ℕ → Clipped) (P : ℕ → ℕ → Type 0) where
+  each-code : (n : ℕ) → ((i : ℕ) → i < n → P (3 * i) (row i .codes .r) × P (3 * i + 1) (row i .codes .g) × P (3 * i + 2) (row i .codes .b))
+      → (j : ℕ) → j < 3 * n → P j (getD (codesTo row n) j 0)
+  unfolding codesTo
+  each-code zero f j h = absurd (omega arith)
+  each-code (suc n) f j h = go (each-code n (λ i m. f i (omega arith)) j) (below-or-not j (3 * n))
+    where
+      three : List ℕ
+      three = row n .codes .r ∷ row n .codes .g ∷ row n .codes .b ∷ []
+
+      here : P (3 * n) (row n .codes .r) × P (3 * n + 1) (row n .codes .g) × P (3 * n + 2) (row n .codes .b)
+      here = f n (omega arith)
+
+      place : (c v : ℕ) → getD three c 0 ≡ v → P (3 * n + c) v → j ≡ 3 * n + c → P j (getD (codesTo row n ++ three) j 0)
+      place c v e p at =
+          let k : j ≡ length (codesTo row n) + c = omega (arith, length-codes row n) in
+          let found : getD (codesTo row n ++ three) j 0 ≡ v = ap (λ (i : ℕ). getD (codesTo row n ++ three) i 0) k ∙ getD-append-add (codesTo row n) three c 0 ∙ e in
+          subst (λ (i : ℕ). P i (getD (codesTo row n ++ three) j 0)) (sym at) (subst (P (3 * n + c)) (sym found) p)
+
+      last : (j < 3 * n + 1) ⊎ (3 * n + 1 ≤ j) → (j < 3 * n + 2) ⊎ (3 * n + 2 ≤ j) → 3 * n ≤ j → P j (getD (codesTo row n ++ three) j 0)
+      last (inl a) b l = place 0 _ refl (subst (λ (i : ℕ). P i (row n .codes .r)) (omega arith) (here .0)) (omega arith)
+      last (inr a) (inl b) l = place 1 _ refl (here .1) (omega arith)
+      last (inr a) (inr b) l = place 2 _ refl (here .2) (omega arith)
+
+      go : (j < 3 * n → P j (getD (codesTo row n) j 0)) → (j < 3 * n) ⊎ (3 * n ≤ j) → P j (getD (codesTo row n ++ three) j 0)
+      go before (inl l) =
+          let found : getD (codesTo row n ++ three) j 0 ≡ getD (codesTo row n) j 0 = List·getD-append (codesTo row n) three 0 j (omega (arith, length-codes row n)) in
+          subst (P j) (sym found) (before l)
+      go before (inr l) = last (below-or-not j (3 * n + 1)) (below-or-not j (3 * n + 2)) l
+
+-- ---- tests that nominal codes and words pass
+
+named-number : (y : System) → named (number y) ≡ accepted y
+named-number Bt709Bits8 = refl
+named-number Bt709Bits10 = refl
+named-number Bt2020Bits10 = refl
+named-number Bt2020Bits12 = refl
+
+codes-pass : (y : System) (c : Codes) → NominalCodes (scale y) c → allWithin (nominal y) c ≡ true
+codes-pass y c n =
+    simp (le-leb _ _ (n .r-low), le-leb _ _ (n .r-high), le-leb _ _ (n .g-low), le-leb _ _ (n .g-high), le-leb _ _ (n .b-low), le-leb _ _ (n .b-high))
+
+words-pass : (y : System) (v : Words) → NominalWords (scale y) v → wordsWithin y v ≡ true
+words-pass y v n =
+    simp (le-leb _ _ (n .y-low), le-leb _ _ (n .y-high), le-leb _ _ (n .cb-low), le-leb _ _ (n .cb-high), le-leb _ _ (n .cr-low), le-leb _ _ (n .cr-high))
+
+-- ---- a sample
+
+-- a code d that is read at place j
+abbrev Good : System → List ℕ → ℕ → ℕ → Type 0
+Good y lights j d = WithinOne d (code y (getD lights j 0)) × Nominal y d
+
+-- the codes d that are read of sample i
+abbrev Returns : System → List ℕ → ℕ → Codes → Type 0
+Returns y lights i d = Good y lights (3 * i) (d .r) × Good y lights (3 * i + 1) (d .g) × Good y lights (3 * i + 2) (d .b)
+
+module _ (y : System) (lights : List ℕ) (i : ℕ) where
+  abbrev c : Codes
+  c = sampleCodes y lights i
+
+  sample-nominal : NominalCodes (scale y) c
+  sample-nominal = record { r-low = code-low y _; r-high = code-high y _; g-low = code-low y _; g-high = code-high y _; b-low = code-low y _; b-high = code-high y _ }
+
+  sample-passes : wordsWithin y (sampleWords y lights i) ≡ true
+  unfolding sampleWords
+  sample-passes = words-pass y _ (words-nominal (matrix y) (scale y) c sample-nominal)
+
+  sample-stored : StoredSample y (codesOf y lights i) (sampleWords y lights i)
+  unfolding sampleWords
+  sample-stored =
+      let near = word-near (matrix y) (scale y) c sample-nominal in
+      let free = no-timing-code y c (codes-pass y c sample-nominal) in
+      record {
+        luma-word = record { near = near .0; no-timing = free .0 };
+        cb-word = record { near = near .1; no-timing = free .1 };
+        cr-word = record { near = near .2; no-timing = free .2 };
+      }
+
+  sample-returns : Returns y lights i (codesAt (matrix y) (scale y) (sampleWords y lights i) .codes)
+  unfolding sampleWords
+  sample-returns =
+      let back = codes-return-within-one (matrix y) (scale y) c sample-nominal in
+      let n = codes-nominal (matrix y) (scale y) (wordsAt (matrix y) (scale y) c) in
+      (((back .r-over, back .r-under), (n .r-low, n .r-high)), ((back .g-over, back .g-under), (n .g-low, n .g-high)), ((back .b-over, back .b-under), (n .b-low, n .b-high)))
+
+-- ---- a row of w samples, numbered r
+
+module _ (y : System) (r w : ℕ) (lights : List ℕ) (some : 1 ≤ w) (most : w ≤ 7680) (low : r ≤ 4319) where
+  abbrev ys : List ℕ
+  ys = listed (λ i. sampleWords y lights i .y) w
+
+  abbrev cbs : List ℕ
+  cbs = listed (λ i. sampleWords y lights i .cb) w
+
+  abbrev crs : List ℕ
+  crs = listed (λ i. sampleWords y lights i .cr) w
+
+  samples : (i : ℕ) → i < w → sampleOf ys cbs crs i ≡ sampleWords y lights i
+  samples i h =
+      let a = listed-at (λ i. sampleWords y lights i .y) w i h in
+      let b = listed-at (λ i. sampleWords y lights i .cb) w i h in
+      let c = listed-at (λ i. sampleWords y lights i .cr) w i h in
+      λ k. record { y = a k; cb = b k; cr = c k }
+
+  nominal-row : NominalRow y w ys cbs crs
+  nominal-row = record {
+    some = some;
+    most = most;
+    luma-count = length-listed _ w;
+    cb-count = length-listed _ w;
+    cr-count = length-listed _ w;
+    nominal = λ i h. ap (wordsWithin y) (samples i h) ∙ sample-passes y lights i;
+  }
+
+  pub size : length (rowBlock y r w lights) ≡ 9 + 6 * w
+  unfolding rowBlock
+  size = block-length (number y) r w y ys cbs crs nominal-row
+
+  words : (i : ℕ) → i < w → StoredSample y (codesOf y lights i) (sampleAt (rowBlock y r w lights) w i)
+  unfolding rowBlock
+  words i h =
+      let same : sampleAt (rowBlock y r w lights) w i ≡ sampleWords y lights i = block-samples (number y) r w y ys cbs crs nominal-row i h ∙ samples i h in
+      subst (StoredSample y (codesOf y lights i)) (sym same) (sample-stored y lights i)
+
+  abbrev row : ℕ → Clipped
+  row = decoded (matrix y) (scale y) (sampleOf ys cbs crs)
+
+  header : Header
+  header = record { system = y; row = r; samples = w; clipped = clippedTo row w }
+
+  heard : (room : ℕ) → 3 * w ≤ room → headerOf (rowBlock y r w lights) room ≡ accepted header
+  unfolding rowBlock header
+  heard room h = block-reads-back (number y) r w y ys cbs crs nominal-row (named-number y) low room h
+
+  left : (slice : List ℕ) → 3 * w ≤ length slice → sliceAfter (rowBlock y r w lights) slice ≡ codesTo row w ++ drop (3 * w) slice
+  unfolding rowBlock
+  left slice h = block-decodes-back (number y) r w y ys cbs crs nominal-row (named-number y) low slice h
+
+  codes : Lights lights → (slice : List ℕ) (j : ℕ) → j < 3 * w → ReadCode y (getD lights j 0) (getD (codesTo row w ++ drop (3 * w) slice) j 0)
+  codes lit slice j h =
+      let back : (i : ℕ) → i < w → Returns y lights i (row i .codes) =
+        λ i h. subst (λ (v : Words). Returns y lights i (codesAt (matrix y) (scale y) v .codes)) (sym (samples i h)) (sample-returns y lights i) in
+      let good : Good y lights j (getD (codesTo row w) j 0) = each-code row (Good y lights) w back j h in
+      let same : getD (codesTo row w ++ drop (3 * w) slice) j 0 ≡ getD (codesTo row w) j 0 =
+        List·getD-append (codesTo row w) (drop (3 * w) slice) 0 j (omega (arith, length-codes row w)) in
+      rw same record { near = good .0; from = from-below y _ _ (lit j) (good .1) (good .0); to = to-above y _ _ (lit j) (good .1) (good .0) }
+
+  pub reads-back : Lights lights → ReadsBack (rowBlock y r w lights) (record { system = number y; width = w; row = r; lights = lights })
+  unfolding header
+  reads-back lit = record {
+    system = y;
+    numbered = refl;
+    size = size;
+    words = words;
+    reads = λ κs bytes₀ codes₀ bytes₁ codes₁ a same room post.
+      let slice = now codes₀ in
+      let told = post .0 ∙ ap (λ (b : List ℕ). headerOf b (length slice)) same ∙ heard (length slice) room in
+      let kept = post .1 ∙ ap (λ (b : List ℕ). sliceAfter b slice) same ∙ left slice room in
+      record { header = header; heard = told; system = refl; width = refl; row = refl; codes = λ j h. rw kept (codes lit slice j h) };
+  }

@@ -1,0 +1,30 @@
+-- The calls' own statements and the claim on lists of them, in one.
+-- Assumes nothing.
+use mathlib.Core.List.{List}
+use Rattle.picture.specs.declared.Picture.{Picture}
+use Rattle.picture.specs.Book.{Call, Heard, fresh}
+use Rattle.picture.proofs.Picture.new.Statement as new-statement
+use Rattle.picture.proofs.Picture.new.Met as new-met
+use Rattle.picture.proofs.Picture.open.Statement as open-statement
+use Rattle.picture.proofs.Picture.open.Met as open-met
+use Rattle.picture.proofs.Picture.row.Statement as row-statement
+use Rattle.picture.proofs.Picture.row.Met as row-met
+use Rattle.picture.proofs.Picture.close.Statement as close-statement
+use Rattle.picture.proofs.Picture.close.Met as close-met
+use Rattle.block.proofs.read_block.Statement as read-statement
+use Rattle.block.proofs.read_block.Met as read-met
+use Rattle.picture.proofs.Calls.{Lent, History}
+use Rattle.picture.proofs.Claims.{Demanded}
+use Rattle.picture.proofs.Demand.{demand-3}
+
+-- each `Post` in a history and in a reading is that of a contract which the routine meets
+pub record Whole : Type 3 where
+  pub new : {M : Type 1} → new-statement.statement M
+  pub opens : {M : Type 1} → open-statement.statement M
+  pub rows : {M : Type 1} → row-statement.statement M
+  pub closes : {M : Type 1} → close-statement.statement M
+  pub reads : {M : Type 1} → read-statement.statement M
+  pub lists : {cs : List Call} {hs : List Heard} {ls : List Lent} {q : Picture} → History cs hs ls q → Demanded fresh cs hs ls q
+
+pub whole : Whole
+whole = record { new = new-met.met; opens = open-met.met; rows = row-met.met; closes = close-met.met; reads = read-met.met; lists = demand-3 }

@@ -1,0 +1,41 @@
+use mathlib.Core.Path.{sym, _∙_}
+use borrow.Author.Tests.{not-true, not-false}
+use borrow.Author.Needs.{needs}
+use Rattle.picture.proofs.Ranges.{in-range}
+use Rattle.picture.proofs.begin_in.Statement.{statement}
+use Rattle.picture.proofs.begin_in.Tie as tie
+
+is-size-requires : tie.Need-is-size-requires
+is-size-requires c κs = search needs
+
+returns : tie.Need-returns
+returns c = rw (sym (c .before .is-size .ensures) ∙ not-true _ (c .if1 .taken))
+
+is-size-requires-2 : tie.Need-is-size-requires-2
+is-size-requires-2 c κs = search needs
+
+returns-2 : tie.Need-returns-2
+returns-2 c =
+    let width = c .before .before in
+    rw (sym (width .before .is-size .ensures) ∙ not-false _ (width .if1 .left), sym (c .before .is-size2 .ensures) ∙ not-true _ (c .if2 .taken))
+
+cast-t8 : tie.Need-cast-t8
+cast-t8 c =
+    let width = c .before .before in
+    let w = in-range (width .before .before .args .width) 1 7680 (sym (width .before .is-size .ensures) ∙ not-false _ (width .if1 .left)) in
+    search needs
+
+cast-t9 : tie.Need-cast-t9
+cast-t9 c =
+    let h = in-range (c .before .before .before .before .args .height) 1 4320 (sym (c .before .is-size2 .ensures) ∙ not-false _ (c .if2 .left)) in
+    search needs
+
+returns-3 : tie.Need-returns-3
+returns-3 c =
+    let width = c .before .before in
+    rw (sym (width .before .is-size .ensures) ∙ not-false _ (width .if1 .left), sym (c .before .is-size2 .ensures) ∙ not-false _ (c .if2 .left))
+
+pub begin-in-spec : {M : Type 1} → statement M
+begin-in-spec =
+    tie.close
+    (tie.spec is-size-requires returns is-size-requires-2 returns-2 cast-t8 cast-t9 returns-3)

@@ -12,6 +12,7 @@ from pathlib import Path
 from struct import pack
 
 import exact
+from pseudorandom import Random
 
 DATA = Path(__file__).resolve().parent.parent / "crates" / "vectors" / "data"
 
@@ -27,20 +28,6 @@ EDGES = [
 ]
 
 RANDOM_PER_SYSTEM = 2000
-
-
-class Random:
-    """A linear congruential generator of 64 bits (Knuth's MMIX constants); its upper 32 bits are used."""
-
-    def __init__(self, seed):
-        self.state = seed
-
-    def word(self):
-        self.state = (self.state * 6364136223846793005 + 1442695040888963407) % 2**64
-        return self.state >> 32
-
-    def below(self, count):
-        return self.word() * count >> 32
 
 
 def half_way_signals(system):

@@ -1,12 +1,12 @@
 // Lights to codes and codes to spans, against the file 'spans'.
 ghost use Prim.Native.Nat.{_+_, _≤_};
 ghost use lib.ListN.{length};
-use crate::data::u16_at;
 use crate::place::Place;
-use crate::tally::Tally;
 use light::CodeSpan;
 use light::LightCode;
 use light::Span;
+use records::Tally;
+use records::u16_at;
 
 // Compares the span of each code with its record.
 pub fn compare_spans(records: &[u8]) -> Tally {

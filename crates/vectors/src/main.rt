@@ -1,13 +1,11 @@
 // Compares the conversion with the data of an unrelated program, reference/make_vectors.py, and writes for each check how many
 // answers it compared and how many differ.
-mod data;
 mod float;
 mod lights;
 mod place;
 mod quantised;
 mod refusals;
 mod restored;
-mod tally;
 mod triple;
 
 fn main() {
@@ -19,19 +17,19 @@ fn main() {
 
 fn check_spans() {
     let mut buf = io::large_buffer();
-    let n = data::read(b"spans", &mut buf);
+    let n = records::read(b"spans", &mut buf);
     lights::compare_lights(&buf[..n]).print(b"lights");
     lights::compare_spans(&buf[..n]).print(b"spans");
 }
 
 fn check_signals() {
     let mut buf = [0u8; 524288];
-    let n = data::read(b"signals", &mut buf);
+    let n = records::read(b"signals", &mut buf);
     quantised::compare(&buf[..n]).print(b"signals");
 }
 
 fn check_restored() {
     let mut buf = io::large_buffer();
-    let n = data::read(b"restored", &mut buf);
+    let n = records::read(b"restored", &mut buf);
     restored::compare(&buf[..n]).print(b"restored");
 }

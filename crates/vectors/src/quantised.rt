@@ -1,9 +1,9 @@
 // Signals to codes, against the file 'signals'.
-use crate::data::u16_at;
-use crate::data::u32_at;
 use crate::float;
-use crate::tally::Tally;
 use crate::triple;
+use records::Tally;
+use records::u16_at;
+use records::u32_at;
 use signals::Quantised;
 use signals::Signals;
 use systems::Codes;

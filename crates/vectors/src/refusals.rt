@@ -1,10 +1,9 @@
 // What each call refuses for its system or its code, with the number (document 01, 'What the caller hears').
 use crate::float;
-use crate::place;
-use crate::tally::Tally;
 use crate::triple;
 use light::CodeSpan;
 use light::LightCode;
+use records::Tally;
 use signals::Quantised;
 use signals::Restored;
 use signals::Signals;
@@ -23,13 +22,13 @@ pub fn compare() -> Tally {
 
 // The codes next to the nominal range and the ends of all codes are refused with 6.
 fn compare_codes(system: u32, tally: Tally) -> Tally {
-    let below = compare_code(system, place::black(system) - 1, tally);
-    let above = compare_code(system, place::white(system) + 1, below);
+    let below = compare_code(system, records::black(system) - 1, tally);
+    let above = compare_code(system, records::white(system) + 1, below);
     compare_code(system, 65535, compare_code(system, 0, above))
 }
 
 fn compare_code(system: u32, code: u16, tally: Tally) -> Tally {
-    let good = place::black(system);
+    let good = records::black(system);
     tally
         .with(of_span(system, code) == 6)
         .with(of_codes(system, triple::codes(code, good, good)) == 6)

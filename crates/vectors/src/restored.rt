@@ -1,10 +1,9 @@
 // Codes to signals, against the file 'restored'.
-use crate::data::u32_at;
 use crate::float::has_bits;
-use crate::place;
 use crate::place::Place;
-use crate::tally::Tally;
 use crate::triple;
+use records::Tally;
+use records::u32_at;
 use signals::Restored;
 use systems::Codes;
 
@@ -33,8 +32,8 @@ pub fn compare(records: &[u8]) -> Tally {
 fn compare_code(place: Place, bits: u32, tally: Tally) -> Tally {
     let system = place.system;
     let code = place.code;
-    let black = place::black(system);
-    let white = place::white(system);
+    let black = records::black(system);
+    let white = records::white(system);
     tally
         .with(is_restored(
             system,

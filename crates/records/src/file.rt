@@ -1,4 +1,4 @@
-// The files of data/, which reference/make_vectors.py makes, and the numbers in them.
+// The files of data/, which the scripts of reference/ make, and the numbers in them.
 ghost use Prim.Native.Nat.{_+_, _≤_};
 ghost use lib.ListN.{length};
 ghost use Rattle.io.specs.Counts.{Counts};

@@ -1,0 +1,12 @@
+// What the programs that compare the conversion with data have in common: the files of data, counts of comparisons, and nominal
+// ranges of their own.
+mod file;
+mod range;
+mod tally;
+
+pub use file::read;
+pub use file::u16_at;
+pub use file::u32_at;
+pub use range::black;
+pub use range::white;
+pub use tally::Tally;

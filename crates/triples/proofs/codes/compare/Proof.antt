@@ -1,0 +1,56 @@
+-- `triples::codes::compare` is safe and ends. The place in the records stays within them, and what is left of them falls.
+-- Assumes nothing.
+use Prim.Native.Nat.{_≤_, _-_}
+use lib.ListN.{length}
+use borrow.Author.Needs.{needs}
+use Rattle.triples.proofs.codes.compare.Statement.{statement}
+use Rattle.triples.proofs.codes.compare.Tie as tie
+
+abbrev Inv-loop : tie.InvT-loop
+Inv-loop records tally₀ at₀ tally at = at ≤ length records
+
+abbrev μ-loop : tie.MeasureT-loop
+μ-loop records tally₀ at₀ tally at = length records - at
+
+loop-holds : tie.Need-loop-holds Inv-loop μ-loop
+loop-holds c = search needs
+
+sub-loop : tie.Need-sub-loop Inv-loop μ-loop
+sub-loop c = search needs
+
+case-at-requires : tie.Need-case-at-requires Inv-loop μ-loop
+case-at-requires c κs = search needs
+
+is-met-requires : tie.Need-is-met-requires Inv-loop μ-loop
+is-met-requires c κs = search needs
+
+with-requires : tie.Need-with-requires Inv-loop μ-loop
+with-requires c κs = search needs
+
+add-at : tie.Need-add-at Inv-loop μ-loop
+add-at c = search needs
+
+loop-less : tie.Need-loop-less Inv-loop μ-loop
+loop-less c = search needs
+
+loop-again : tie.Need-loop-again Inv-loop μ-loop
+loop-again c = search needs
+
+returns : tie.Need-returns Inv-loop μ-loop
+returns c = search needs
+
+pub compare-spec : {M : Type 1} → statement M
+compare-spec =
+    tie.close
+    (tie.spec
+    Inv-loop
+    μ-loop
+    loop-holds
+    sub-loop
+    case-at-requires
+    is-met-requires
+    with-requires
+    add-at
+    loop-less
+    loop-again
+    returns)

@@ -1,0 +1,150 @@
+"""Makes crates/blocks/data/ from rows.py: python3 reference/make_blocks.py
+
+All numbers are unsigned, low byte first. The same bytes come at every run.
+
+- cases: for each case the places of the lent slice, the refusal or 0, the block's length, then the system, row number and count
+  of the row (2 bytes each) and its clipped total (4 bytes), all 0 where refused; then the block's bytes and the codes of an
+  accepted row (2 bytes each).
+"""
+
+from pathlib import Path
+from struct import pack
+
+import rows
+from exact import SYSTEMS, nominal, nominal_codes
+from pseudorandom import Random
+from rows import LAST_ROW, WIDEST, block, nominal_differences, read_block, words_of_codes
+
+DATA = Path(__file__).resolve().parent.parent / "crates" / "blocks" / "data"
+
+WIDTHS = (1, 2, 3, 5)
+FAULTY_PER_SYSTEM = 400
+
+
+def random_words(random, system):
+    """Words of random codes, or in half of the cases any nominal words."""
+    if random.below(2):
+        return words_of_codes(system, [random.of(nominal_codes(system)) for _ in range(3)])
+    differences = nominal_differences(system)
+    return random.of(nominal_codes(system)), random.of(differences), random.of(differences)
+
+
+def random_block(random, system, row, width):
+    return block(system, row, [random_words(random, system) for _ in range(width)])
+
+
+def replaced(given, at, new):
+    """The block with these bytes from a place on, and no longer than it was."""
+    return (given[:at] + new + given[at + len(new) :])[: len(given)]
+
+
+def word(value):
+    return pack("<H", value)
+
+
+def count_places(width):
+    return [3 + section * (2 + 2 * width) for section in range(3)]
+
+
+def with_system(given):
+    for system in (0, 1, 4, 5, 255):
+        yield replaced(given, 0, bytes([system]))
+
+
+def with_row(given):
+    for row in (0, LAST_ROW, LAST_ROW + 1, 65535):
+        yield replaced(given, 1, word(row))
+
+
+def with_counts(given, width):
+    """Each section's count exchanged; 256 more shows whether the high byte is read."""
+    for at in count_places(width):
+        for count in (0, width - 1, width + 1, width + 256, WIDEST, WIDEST + 1, 65535):
+            yield replaced(given, at, word(count))
+
+
+def with_words(given, width, system):
+    """Words at the ends of the ranges and beyond them, at the first and last places of each section."""
+    low, white = nominal(system)
+    peak = nominal_differences(system)[-1]
+    for at in count_places(width):
+        for place in sorted({at + 2, at + 2 * width}):
+            for value in (low - 1, low, white, white + 1, peak, peak + 1, 0, 65535):
+                yield replaced(given, place, word(value))
+
+
+def cut(given):
+    for length in range(len(given)):
+        yield given[:length]
+
+
+def lengthened(given):
+    for more in (b"\0", b"\xff\xff", given[3:9], given):
+        yield given + more
+
+
+def faults(given, width, system):
+    """The block with each fault by itself, a list for each kind of fault."""
+    kinds = (with_system(given), with_row(given), with_counts(given, width), with_words(given, width, system))
+    return [list(kind) for kind in (*kinds, cut(given), lengthened(given))]
+
+
+def single_faults(random, system, width):
+    given = random_block(random, system, random.below(LAST_ROW + 1), width)
+    for kind in faults(given, width, system):
+        yield from ((faulty, 3 * width) for faulty in kind)
+    for places in (0, 3 * width - 3, 3 * width - 1, 3 * width, 3 * width + 1, 3 * width + 9):
+        yield given, places
+
+
+def several_faults(random, system):
+    """A block with two to four faults, and a slice that is too short in half of the cases."""
+    width = random.of(WIDTHS)
+    given = random_block(random, system, random.below(LAST_ROW + 1), width)
+    for _ in range(2 + random.below(3)):
+        given = random.of(random.of(faults(given, width, system)) or [given])
+    return given, 3 * width - random.below(2)
+
+
+def empty_row(system):
+    """A block that is whole and has no samples."""
+    return pack("<B4H", system, 0, 0, 0, 0), 3
+
+
+def wide(random):
+    """Rows of the greatest width: accepted, with a slice of one place too few, and with a wrong last word."""
+    given = random_block(random, 4, LAST_ROW, WIDEST)
+    yield given, 3 * WIDEST
+    yield given, 3 * WIDEST - 1
+    yield replaced(given, len(given) - 2, word(65535)), 3 * WIDEST
+
+
+def cases(random):
+    yield b"", 0
+    yield b"", 3
+    for system in SYSTEMS:
+        yield empty_row(system)
+        for width in WIDTHS:
+            yield from single_faults(random, system, width)
+        for _ in range(FAULTY_PER_SYSTEM):
+            yield several_faults(random, system)
+    yield from wide(random)
+
+
+def record(given, places):
+    row = read_block(given, places)
+    if isinstance(row, int):
+        return pack("<6HI", places, row, len(given), 0, 0, 0, 0) + given
+    head = pack("<6HI", places, 0, len(given), row.system, row.number, row.samples, row.clipped)
+    return head + given + pack(f"<{len(row.codes)}H", *row.codes)
+
+
+def main():
+    rows.check()
+    DATA.mkdir(parents=True, exist_ok=True)
+    records = (record(*case) for case in cases(Random(4320_7680)))
+    (DATA / "cases").write_bytes(b"".join(records))
+
+
+if __name__ == "__main__":
+    main()

@@ -1,0 +1,154 @@
+"""Makes crates/triples/data/ from rows.py: python3 reference/make_triples.py
+
+All numbers are unsigned, low byte first. The same bytes come at every run.
+
+- grid: Y', Cb and Cr (1 byte each) of each triple of system 1 whose R', G' and B' are at one of 40 levels, B' changing fastest.
+  Level i is the code 16 + 219·i/39, fractions dropped.
+- words, words_refused: records of system (4 bytes), refusal or 0, R, G, B, Y', Cb and Cr (2 bytes each; the words 0 where refused).
+- codes, codes_refused: records of system (4 bytes), refusal or 0, Y', Cb, Cr, R, G, B and the clipped count (2 bytes each; the
+  last four 0 where refused).
+"""
+
+from fractions import Fraction
+from heapq import nsmallest
+from itertools import product
+from pathlib import Path
+from struct import pack
+
+import rows
+from exact import SYSTEMS, nominal, nominal_codes
+from pseudorandom import Random
+from rows import nominal_differences
+
+DATA = Path(__file__).resolve().parent.parent / "crates" / "triples" / "data"
+
+GRID_LEVELS = 40
+STEPS_PER_EDGE = 16
+MOST_GREYS = 450
+RANDOM_PER_SYSTEM = 1000
+SEARCHED_FOR_HALVES = 10000
+NEAREST_HALVES = 60
+
+BAD_SYSTEMS = (0, 5, 257, 65537, 2**32 - 1)
+
+
+def grid():
+    levels = [16 + 219 * i // (GRID_LEVELS - 1) for i in range(GRID_LEVELS)]
+    for codes in product(levels, repeat=3):
+        yield bytes(rows.words_of_codes(1, codes))
+
+
+def ranges(system):
+    """The nominal Y', Cb and Cr words."""
+    return nominal_codes(system), nominal_differences(system), nominal_differences(system)
+
+
+def corners(of):
+    return product(*((values[0], values[-1]) for values in of))
+
+
+def edges(of):
+    """Steps along the twelve edges of a cube."""
+    for along in range(3):
+        steps = of[along][:: len(of[along]) // STEPS_PER_EDGE]
+        yield from product(*(steps if i == along else (of[i][0], of[i][-1]) for i in range(3)))
+
+
+def greys(system):
+    codes = nominal_codes(system)
+    return ((code, code, code) for code in codes[:: len(codes) // MOST_GREYS + 1])
+
+
+def random_triples(random, of, count):
+    return [tuple(random.of(values) for values in of) for _ in range(count)]
+
+
+def near_halves(values, system, triples):
+    """For each component the triples whose exact value lies nearest to a half, where rounding is decided."""
+    valued = [(values(system, triple), triple) for triple in triples]
+    for i in range(3):
+        nearest = nsmallest(NEAREST_HALVES, valued, key=lambda case: abs(case[0][i] % 1 - Fraction(1, 2)))
+        yield from (triple for _, triple in nearest)
+
+
+def code_triples(system, random):
+    of = (nominal_codes(system),) * 3
+    yield from corners(of)
+    yield from edges(of)
+    yield from greys(system)
+    yield from random_triples(random, of, RANDOM_PER_SYSTEM)
+    yield from near_halves(rows.word_values, system, random_triples(random, of, SEARCHED_FOR_HALVES))
+
+
+def word_triples(system, random):
+    """Words of codes, and any nominal words, most of which no camera makes."""
+    codes = (nominal_codes(system),) * 3
+    yield from (rows.words_of_codes(system, triple) for triple in code_triples(system, random))
+    of = ranges(system)
+    yield from corners(of)
+    yield from edges(of)
+    yield from random_triples(random, of, RANDOM_PER_SYSTEM)
+    yield from near_halves(rows.code_values, system, random_triples(random, of, SEARCHED_FOR_HALVES))
+    made = [rows.words_of_codes(system, triple) for triple in random_triples(random, codes, SEARCHED_FOR_HALVES)]
+    yield from near_halves(rows.code_values, system, made)
+
+
+def outside(of, random):
+    """Triples with one, two or three components outside their ranges: next to the range, far from it, and in the other range."""
+    for wrong in product((False, True), repeat=3):
+        for pick in range(4 if any(wrong) else 0):
+            outs = [(values[0] - 1, values[-1] + 1, 0, 65535) for values in of]
+            yield tuple(outs[i][pick] if wrong[i] else random.of(of[i]) for i in range(3))
+
+
+def bad_code_triples(random):
+    for system in SYSTEMS:
+        of = (nominal_codes(system),) * 3
+        yield from ((system, codes) for codes in outside(of, random))
+    for system in BAD_SYSTEMS:
+        yield from ((system, codes) for codes in ((100, 100, 100), (0, 0, 0), (300, 65535, 300)))
+
+
+def bad_word_triples(random):
+    for system in SYSTEMS:
+        yield from ((system, words) for words in outside(ranges(system), random))
+        # Y' has the shorter range: the highest nominal colour difference is no luma.
+        peak, grey = nominal_differences(system)[-1], nominal(system)[0]
+        yield system, (peak, peak, peak)
+        yield system, (peak, grey, grey)
+    for system in BAD_SYSTEMS:
+        yield from ((system, words) for words in ((100, 100, 100), (0, 0, 0), (300, 65535, 300)))
+
+
+def words_record(system, codes):
+    words = rows.words_of_codes(system, codes)
+    if isinstance(words, int):
+        return pack("<I7H", system, words, *codes, 0, 0, 0)
+    return pack("<I7H", system, 0, *codes, *words)
+
+
+def codes_record(system, words):
+    codes = rows.codes_of_words(system, words)
+    if isinstance(codes, int):
+        return pack("<I8H", system, codes, *words, 0, 0, 0, 0)
+    return pack("<I8H", system, 0, *words, *codes.codes, codes.count)
+
+
+def files():
+    random = Random(601_709)
+    yield "grid", grid()
+    yield "words", (words_record(s, codes) for s in SYSTEMS for codes in code_triples(s, random))
+    yield "codes", (codes_record(s, words) for s in SYSTEMS for words in word_triples(s, random))
+    yield "words_refused", (words_record(*case) for case in bad_code_triples(random))
+    yield "codes_refused", (codes_record(*case) for case in bad_word_triples(random))
+
+
+def main():
+    rows.check()
+    DATA.mkdir(parents=True, exist_ok=True)
+    for name, records in files():
+        (DATA / name).write_bytes(b"".join(records))
+
+
+if __name__ == "__main__":
+    main()

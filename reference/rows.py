@@ -1,0 +1,202 @@
+"""Document 01's triples and row blocks in exact arithmetic: whole numbers and fractions only, and nothing shared with the crates.
+
+One function for each sentence. A call that is refused answers the refusal's number in place of its result.
+Running this file checks it against the document's bench values and its rowlist example.
+"""
+
+from fractions import Fraction
+from struct import pack, unpack_from
+from typing import NamedTuple
+
+from exact import INT, SYSTEMS, nominal, nominal_codes
+
+# 'What the caller hears'
+
+REFUSED_SYSTEM = 1
+REFUSED_OUTPUT = 5
+REFUSED_CODE = 6
+REFUSED_END = 8
+REFUSED_COUNT = 9
+REFUSED_ROW = 10
+REFUSED_AFTER = 11
+
+
+# 'Triples'
+
+WEIGHTS = {709: (2126, 7152, 722), 2020: (2627, 6780, 593)}
+
+
+def weights(system):
+    return WEIGHTS[SYSTEMS[system].matrix]
+
+
+def middle(system):
+    """The word m of a colour difference of zero."""
+    return 128 * SYSTEMS[system].scale
+
+
+def nominal_differences(system):
+    """The nominal Cb or Cr words."""
+    s = SYSTEMS[system].scale
+    return range(16 * s, 240 * s + 1)
+
+
+class Clipped(NamedTuple):
+    codes: tuple
+    count: int
+
+
+def word_values(system, codes):
+    """What stands inside INT for Y', Cb and Cr of the codes R, G and B."""
+    kr, kg, kb = weights(system)
+    r, g, b = codes
+    luma = kr * r + kg * g + kb * b
+    cb = Fraction((10000 * b - luma) * 224, 219 * 2 * (10000 - kb)) + middle(system)
+    cr = Fraction((10000 * r - luma) * 224, 219 * 2 * (10000 - kr)) + middle(system)
+    return Fraction(luma, 10000), cb, cr
+
+
+def words_of_codes(system, codes):
+    if system not in SYSTEMS:
+        return REFUSED_SYSTEM
+    if any(code not in nominal_codes(system) for code in codes):
+        return REFUSED_CODE
+    return tuple(INT(v) for v in word_values(system, codes))
+
+
+def code_values(system, words):
+    """What stands inside INT for R, G and B of the words Y', Cb and Cr."""
+    kr, kg, kb = weights(system)
+    y, cb, cr = words[0], words[1] - middle(system), words[2] - middle(system)
+    q = Fraction(219, 224)
+    r = y + q * cr * 2 * Fraction(10000 - kr, 10000)
+    b = y + q * cb * 2 * Fraction(10000 - kb, 10000)
+    of_cr = q * cr * 2 * Fraction(kr * (10000 - kr), 10000 * kg)
+    of_cb = q * cb * 2 * Fraction(kb * (10000 - kb), 10000 * kg)
+    return r, y - of_cr - of_cb, b
+
+
+def are_nominal_words(system, words):
+    y, cb, cr = words
+    differences = nominal_differences(system)
+    return y in nominal_codes(system) and cb in differences and cr in differences
+
+
+def codes_of_words(system, words):
+    if system not in SYSTEMS:
+        return REFUSED_SYSTEM
+    if not are_nominal_words(system, words):
+        return REFUSED_CODE
+    return clipped(system, [INT(v) for v in code_values(system, words)])
+
+
+def clipped(system, components):
+    """The components in the nominal range, each beyond it at its nearer end, and how many were brought there."""
+    low, high = nominal(system)
+    codes = tuple(min(max(c, low), high) for c in components)
+    return Clipped(codes, sum(c != code for c, code in zip(components, codes)))
+
+
+# 'Row block', and the order of refusals under 'What the caller hears'
+
+WIDEST = 7680
+LAST_ROW = 4319
+LISTED_BYTES = 46090
+
+
+class Row(NamedTuple):
+    system: int
+    number: int
+    samples: int
+    clipped: int
+    codes: list
+
+
+def block(system, row, words):
+    """The bytes of a row whose samples have these words."""
+    sections = (pack(f"<H{len(words)}H", len(words), *section) for section in zip(*words))
+    return pack("<BH", system, row) + b"".join(sections)
+
+
+def read_block(given, places):
+    """The row of a block, for a lent slice with this many places."""
+    if len(given) < 3:
+        return REFUSED_END
+    system, number = unpack_from("<BH", given)
+    if system not in SYSTEMS:
+        return REFUSED_SYSTEM
+    if number > LAST_ROW:
+        return REFUSED_ROW
+    sections, at = [], 3
+    for _ in ("Y'", "Cb", "Cr"):
+        if len(given) < at + 2:
+            return REFUSED_END
+        (count,) = unpack_from("<H", given, at)
+        if not 1 <= count <= WIDEST or sections and count != len(sections[0]):
+            return REFUSED_COUNT
+        if len(given) < at + 2 + 2 * count:
+            return REFUSED_END
+        sections.append(unpack_from(f"<{count}H", given, at + 2))
+        at += 2 + 2 * count
+    if len(given) > at:
+        return REFUSED_AFTER
+    samples = [codes_of_words(system, words) for words in zip(*sections)]
+    if REFUSED_CODE in samples:
+        return REFUSED_CODE
+    if places < 3 * count:
+        return REFUSED_OUTPUT
+    codes = [code for sample in samples for code in sample.codes]
+    return Row(system, number, count, sum(sample.count for sample in samples), codes)
+
+
+def listing(given):
+    """What `rowlist` prints for this input."""
+    row = read_block(given[:LISTED_BYTES], 3 * WIDEST)
+    if isinstance(row, int):
+        return f"refused {row}\n"
+    lines = [f"system {row.system} row {row.number} samples {row.samples} clipped {row.clipped}"]
+    lines += ("{} {} {}".format(*row.codes[at : at + 3]) for at in range(0, 3 * row.samples, 3))
+    return "\n".join(lines) + "\n"
+
+
+# The document's bench values and example.
+
+
+def check_triples():
+    assert words_of_codes(1, (235, 16, 16)) == (63, 102, 240)
+    assert codes_of_words(1, (63, 102, 240)) == ((235, 17, 16), 0)
+    assert words_of_codes(1, (16, 16, 235)) == (32, 240, 118)
+    assert codes_of_words(1, (32, 240, 118)) == ((17, 16, 235), 0)
+    assert words_of_codes(1, (16, 235, 16)) == (173, 42, 26)
+    assert words_of_codes(3, (940, 64, 64)) == (294, 387, 960)
+    assert codes_of_words(1, (16, 240, 240)) == ((188, 16, 219), 1)
+    assert codes_of_words(1, (15, 128, 128)) == REFUSED_CODE
+
+
+def check_greys():
+    """A grey has its code as Y' and no colour difference, and returns."""
+    for system in SYSTEMS:
+        for code in nominal_codes(system):
+            words = words_of_codes(system, (code, code, code))
+            assert words == (code, middle(system), middle(system))
+            assert codes_of_words(system, words) == ((code, code, code), 0)
+
+
+def check_blocks():
+    grey = block(1, 0, [(235, 128, 128)])
+    assert grey.hex(" ") == "01 00 00 01 00 eb 00 01 00 80 00 01 00 80 00"
+    assert listing(grey) == "system 1 row 0 samples 1 clipped 0\n235 235 235\n"
+    wide = block(4, LAST_ROW, [(256, 2048, 2048)] * WIDEST)
+    assert len(wide) == 46089
+    assert read_block(wide, 3 * WIDEST) == Row(4, LAST_ROW, WIDEST, 0, [256] * 3 * WIDEST)
+    assert read_block(wide, 3 * WIDEST - 1) == REFUSED_OUTPUT
+
+
+def check():
+    check_triples()
+    check_greys()
+    check_blocks()
+
+
+if __name__ == "__main__":
+    check()

@@ -1,16 +1,15 @@
 -- Demand 3, as one claim about every list of calls.
 -- Assumes nothing.
-use Prim.Native.Nat.{ℕ, _+_, _*_, _≤_, _<_}
-use mathlib.Core.Path.{_≡_, refl, ap, sym, _∙_, subst}
+use Prim.Native.Nat.{ℕ, _+_, _*_, _≤_}
+use mathlib.Core.Path.{_≡_, refl, ap, sym, subst}
 use mathlib.Core.Bool.{Bool, true, false}
 use mathlib.Core.List.{List, [], _∷_, _++_}
 use native.Mathlib.Omega.{arith}
 use lib.Dec.{ltb, leb, eqb}
-use lib.ListN.{length, take, drop, getD}
+use lib.ListN.{length, drop}
 use lib.Seq.{take-at}
 use borrow.Author.Tests.{ltb-true}
-use contract.Lifetimes.{Lfts}
-use denote.Ref.{RefT, now}
+use denote.Ref.{now}
 use Rattle.exact.specs.Outcome as outcome
 use Rattle.exact.specs.Outcome.{Outcome}
 use Rattle.systems.specs.Systems.{number}
@@ -19,11 +18,10 @@ use Rattle.picture.specs.declared.Opened.{Opened}
 use Rattle.picture.specs.declared.Phase.{Phase}
 use Rattle.picture.specs.declared.Phase.the-variants.{Fresh, Open, Closed}
 use Rattle.picture.specs.declared.Picture.{Picture}
-use Rattle.picture.specs.declared.Change.{Change}
-use Rattle.picture.specs.Picture.{at, toldPicture, opening, openFrom, blockLength, rowOpen, rowFrom, rowing, bufferBy, bufferFrom, bufferAfter, closeFrom, closing}
-use Rattle.picture.specs.Book.{Call, opens, rows, closes, State, fresh, Heard, accepted, refused, Entry, accepts, enters, choose, hears, next, heardFrom, entriesFrom}
+use Rattle.picture.specs.Picture.{at, toldPicture, blockLength, rowOpen, rowFrom, bufferBy, bufferFrom}
+use Rattle.picture.specs.Book.{Call, opens, rows, closes, State, fresh, Heard, accepted, refused, Entry, accepts, enters, choose, heardFrom, entriesFrom}
 use Rattle.picture.proofs.Calls.{heardOf, leads, Lent, Lights, Ran, ends, after-open, after-row, after-close, History}
-use Rattle.picture.proofs.Claims.{ReadsBack, Blocks, none, one, keptBy, kept, Unchanged, stateOf, stateFrom, Demanded, Sized, Proper}
+use Rattle.picture.proofs.Claims.{ReadsBack, Blocks, none, one, keptBy, kept, Unchanged, stateOf, stateFrom, Demanded, Proper}
 use Rattle.picture.proofs.Rows.{size, reads-back}
 use Rattle.picture.proofs.Steps.{InStep, split, open-step, row-step, close-step}
 
@@ -50,11 +48,11 @@ row-keeps (Open o) lights out g l =
     (λ a. split (eqb (length lights) (3 * o .width))
     (λ b. split (leb (blockLength (o .width)) (length out))
     (λ c.
-      let lt = ltb-true (o .rows) (o .height) a in
-      let numbered : o .rows ≤ 4319 = omega (arith, g .height-to) in
-      let long = size (o .system) (o .rows) (o .width) lights (g .width-from) (g .width-to) numbered in
-      let back = reads-back (o .system) (o .rows) (o .width) lights (g .width-from) (g .width-to) numbered l in
-      simp (a, b, c) (one (subst (λ (s : List ℕ). ReadsBack s (record { system = number (o .system); width = o .width; row = o .rows; lights = lights })) (sym (take-at (rowBlock (o .system) (o .rows) (o .width) lights) (drop (blockLength (o .width)) out) (9 + 6 * o .width) long)) back) none))
+    let lt = ltb-true (o .rows) (o .height) a in
+    let numbered : o .rows ≤ 4319 = omega (arith, g .height-to) in
+    let long = size (o .system) (o .rows) (o .width) lights (g .width-from) (g .width-to) numbered in
+    let back = reads-back (o .system) (o .rows) (o .width) lights (g .width-from) (g .width-to) numbered l in
+    simp (a, b, c) (one (subst (λ (s : List ℕ). ReadsBack s (record { system = number (o .system); width = o .width; row = o .rows; lights = lights })) (sym (take-at (rowBlock (o .system) (o .rows) (o .width) lights) (drop (blockLength (o .width)) out) (9 + 6 * o .width) long)) back) none))
     (λ c. simp (a, b, c) none))
     (λ b. simp (a, b) none))
     (λ a. simp a none)

@@ -1,7 +1,7 @@
 -- Every list of calls has a history, so demand 3 speaks of all of them.
 -- Assumes nothing.
 use Prim.Native.Nat.{ℕ, _*_}
-use mathlib.Core.Path.{_≡_, refl, ap, subst, _∙_}
+use mathlib.Core.Path.{_≡_, refl, subst}
 use mathlib.Core.Bool.{Bool, true, false}
 use mathlib.Core.List.{List, [], _∷_}
 use lib.Dec.{ltb, leb, eqb}
@@ -12,7 +12,6 @@ use Rattle.exact.specs.Outcome.{Outcome, accepted, refused, require}
 use Rattle.systems.specs.declared.System.{System}
 use Rattle.systems.specs.declared.refusal.Refusal.{Refusal}
 use Rattle.systems.specs.declared.refusal.Refusal.the-variants as refusal
-use Rattle.systems.specs.Systems.{named}
 use Rattle.systems.specs.Refusals as numbers
 use Rattle.picture.specs.declared.Phase.{Phase}
 use Rattle.picture.specs.declared.Phase.the-variants.{Fresh, Open, Closed}

@@ -1,10 +1,9 @@
 -- A light whose code is within one code of another lies between the lights of that code's neighbours.
 -- Assumes nothing.
 use Prim.Native.Nat.{ℕ, _+_, _*_, _-_, _≤_, _<_}
-use mathlib.Core.Path.{_≡_, refl, subst}
+use mathlib.Core.Path.{_≡_, subst}
 use mathlib.Core.Logic.{_⊎_, inl, inr}
 use native.Mathlib.Omega.{arith}
-use lib.Dec.{leb}
 use borrow.Author.Tests.{le-leb, lt-leb}
 use Rattle.exact.proofs.Order.{below-or-not}
 use Rattle.systems.specs.declared.System.{System}
@@ -13,7 +12,7 @@ use Rattle.systems.proofs.Ranges.{Nominal}
 use Rattle.curve.specs.Curve.{code, fullLight, leastLight, greatestLight}
 use Rattle.curve.proofs.Lights.{code-low, code-high, codes-rise}
 use Rattle.light.proofs.Lit.{Lit, every-code-lit}
-use Rattle.light.proofs.Spans.{least-has, least-first, greatest-has, greatest-last, greatest-light}
+use Rattle.light.proofs.Spans.{least-has, least-first, greatest-has, greatest-last}
 use Rattle.picture.proofs.Claims.{WithinOne, below, above}
 
 lit : (y : System) (d : ℕ) → Nominal y d → Lit y d

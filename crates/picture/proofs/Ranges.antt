@@ -1,9 +1,9 @@
 -- What a test of a size shows.
 -- Assumes nothing.
 use mathlib.Core.Path.{_≡_}
-use mathlib.Core.Bool.{Bool, true, false, _&&_}
+use mathlib.Core.Bool.{true, _&&_}
 use Prim.Native.Nat.{ℕ, _≤_}
-use lib.Dec.{T, leb, leb→le}
+use lib.Dec.{leb, leb→le}
 use lib.Ieee.Fits.{and-l, and-r}
 use Rattle.exact.proofs.Boolean.{holds}
 

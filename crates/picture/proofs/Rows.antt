@@ -6,7 +6,7 @@ use mathlib.Core.Bool.{true}
 use mathlib.Core.Logic.{_⊎_, inl, inr}
 use mathlib.Core.List.{List, [], _∷_, _++_}
 use native.Mathlib.Omega.{arith}
-use lib.ListN.{length, getD, drop, length-append, List·getD-append}
+use lib.ListN.{length, getD, drop, List·getD-append}
 use lib.Seq.{getD-append-add}
 use denote.Ref.{now}
 use borrow.Author.Tests.{le-leb}
@@ -28,20 +28,16 @@ use Rattle.matrix.proofs.Nominal.{words-nominal, word-near, no-timing-code}
 use Rattle.matrix.proofs.Return.{codes-return-within-one}
 use Rattle.block.specs.declared.Header.{Header}
 use Rattle.block.specs.Block.{sampleOf}
-use Rattle.block.specs.Read.{sampleAt, decoded, codesTo, clippedTo, headerOf, sliceAfter, toldHeader}
+use Rattle.block.specs.Read.{sampleAt, decoded, codesTo, clippedTo, headerOf, sliceAfter}
 use Rattle.block.proofs.Decoding.{length-codes}
 use Rattle.block.proofs.ReadBack.{NominalRow, block-length, block-samples, block-reads-back, block-decodes-back}
 use Rattle.row.specs.Row.{sampleCodes, sampleWords, listed, rowBlock}
+use Rattle.row.proofs.Sections.{length-listed}
 use Rattle.picture.proofs.Calls.{Lights}
 use Rattle.picture.proofs.Claims.{WithinOne, ReadCode, StoredSample, codesOf, ReadsBack}
 use Rattle.picture.proofs.Neighbours.{from-below, to-above}
 
 -- ---- lists
-
-length-listed : (f : ℕ → ℕ) (n : ℕ) → length (listed f n) ≡ n
-unfolding listed
-length-listed f zero = refl
-length-listed f (suc n) = simp length-append (omega (arith, length-listed f n))
 
 listed-at : (f : ℕ → ℕ) (n i : ℕ) → i < n → getD (listed f n) i 0 ≡ f i
 unfolding listed
@@ -197,10 +193,10 @@ module _ (y : System) (r w : ℕ) (lights : List ℕ) (some : 1 ≤ w) (most : w
   codes : Lights lights → (slice : List ℕ) (j : ℕ) → j < 3 * w → ReadCode y (getD lights j 0) (getD (codesTo row w ++ drop (3 * w) slice) j 0)
   codes lit slice j h =
       let back : (i : ℕ) → i < w → Returns y lights i (row i .codes) =
-        λ i h. subst (λ (v : Words). Returns y lights i (codesAt (matrix y) (scale y) v .codes)) (sym (samples i h)) (sample-returns y lights i) in
+      λ i h. subst (λ (v : Words). Returns y lights i (codesAt (matrix y) (scale y) v .codes)) (sym (samples i h)) (sample-returns y lights i) in
       let good : Good y lights j (getD (codesTo row w) j 0) = each-code row (Good y lights) w back j h in
       let same : getD (codesTo row w ++ drop (3 * w) slice) j 0 ≡ getD (codesTo row w) j 0 =
-        List·getD-append (codesTo row w) (drop (3 * w) slice) 0 j (omega (arith, length-codes row w)) in
+      List·getD-append (codesTo row w) (drop (3 * w) slice) 0 j (omega (arith, length-codes row w)) in
       rw same record { near = good .0; from = from-below y _ _ (lit j) (good .1) (good .0); to = to-above y _ _ (lit j) (good .1) (good .0) }
 
   pub reads-back : Lights lights → ReadsBack (rowBlock y r w lights) (record { system = number y; width = w; row = r; lights = lights })
@@ -211,8 +207,8 @@ module _ (y : System) (r w : ℕ) (lights : List ℕ) (some : 1 ≤ w) (most : w
     size = size;
     words = words;
     reads = λ κs bytes₀ codes₀ bytes₁ codes₁ a same room post.
-      let slice = now codes₀ in
-      let told = post .0 ∙ ap (λ (b : List ℕ). headerOf b (length slice)) same ∙ heard (length slice) room in
-      let kept = post .1 ∙ ap (λ (b : List ℕ). sliceAfter b slice) same ∙ left slice room in
-      record { header = header; heard = told; system = refl; width = refl; row = refl; codes = λ j h. rw kept (codes lit slice j h) };
+        let slice = now codes₀ in
+        let told = post .0 ∙ ap (λ (b : List ℕ). headerOf b (length slice)) same ∙ heard (length slice) room in
+        let kept = post .1 ∙ ap (λ (b : List ℕ). sliceAfter b slice) same ∙ left slice room in
+        record { header = header; heard = told; system = refl; width = refl; row = refl; codes = λ j h. rw kept (codes lit slice j h) };
   }

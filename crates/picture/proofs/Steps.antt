@@ -1,9 +1,9 @@
 -- One call: the picture's answer and the row book's, side by side.
 -- Assumes nothing.
-use Prim.Native.Nat.{ℕ, zero, suc, _+_, _*_, _≤_}
-use mathlib.Core.Path.{_≡_, refl, ap, sym, _∙_}
+use Prim.Native.Nat.{ℕ, _*_}
+use mathlib.Core.Path.{_≡_, refl}
 use mathlib.Core.Bool.{Bool, true, false, not, _&&_}
-use mathlib.Core.List.{List, [], _∷_}
+use mathlib.Core.List.{List}
 use native.Mathlib.Omega.{arith}
 use lib.Dec.{ltb, leb, eqb}
 use lib.ListN.{length}
@@ -14,14 +14,13 @@ use Rattle.systems.specs.declared.System.{System}
 use Rattle.systems.specs.declared.System.the-variants.{Bt709Bits8, Bt709Bits10, Bt2020Bits10, Bt2020Bits12}
 use Rattle.systems.specs.Systems.{number, named}
 use Rattle.systems.proofs.Scales.{unnamed}
-use Rattle.picture.specs.declared.Opened.{Opened}
 use Rattle.picture.specs.declared.Phase.{Phase}
 use Rattle.picture.specs.declared.Phase.the-variants.{Fresh, Open, Closed}
 use Rattle.picture.specs.declared.Picture.{Picture}
 use Rattle.picture.specs.Picture.{at, beginIn, begin, openFrom, blockLength, rowOpen, rowFrom, closeFrom}
-use Rattle.picture.specs.Book.{Call, opens, rows, closes, State, fresh, opened, closed, Heard, accepted, refused, among, accepts, choose, hears, next}
+use Rattle.picture.specs.Book.{Call, opens, rows, closes, opened, accepted, refused, among, choose, hears, next}
 use Rattle.picture.proofs.Calls.{heardOf, leads}
-use Rattle.picture.proofs.Claims.{stateOf, Sized, Proper}
+use Rattle.picture.proofs.Claims.{stateOf, Proper}
 
 -- the answer o to the call c is the book's, it leads where the book's next state is, and to a picture that calls can reach
 pub record InStep (f : Phase) (c : Call) (o : Outcome Picture) : Type 0 where
@@ -83,7 +82,7 @@ begins f n w h (names y e) =
       same = simp (a, b, c, d);
       leads-on = simp (a, b, c, d, e);
       stays = λ g. simp (a, b, c, d)
-        record { width-from = leb-true 1 w a; width-to = leb-true w 7680 b; height-from = leb-true 1 h c; height-to = leb-true h 4320 d; rows-to = omega arith };
+          record { width-from = leb-true 1 w a; width-to = leb-true w 7680 b; height-from = leb-true 1 h c; height-to = leb-true h 4320 d; rows-to = omega arith };
     })
     (λ d. record { same = simp (a, b, c, d); leads-on = simp (a, b, c, d); stays = λ g. simp (a, b, c, d) g }))
     (λ c. record { same = simp (a, b, c); leads-on = simp (a, b, c); stays = λ g. simp (a, b, c) g }))
@@ -111,7 +110,7 @@ row-step (Open o) lights room =
       same = simp (a, b, c);
       leads-on = simp (a, b, c);
       stays = λ g. let lt = ltb-true (o .rows) (o .height) a in simp (a, b, c)
-        record { width-from = g .width-from; width-to = g .width-to; height-from = g .height-from; height-to = g .height-to; rows-to = omega arith };
+          record { width-from = g .width-from; width-to = g .width-to; height-from = g .height-from; height-to = g .height-to; rows-to = omega arith };
     })
     (λ c. record { same = simp (full, short, a, b, c); leads-on = simp (a, b, c); stays = λ g. simp (a, b, c) g }))
     (λ b. record { same = simp (full, a, b); leads-on = simp (a, b); stays = λ g. simp (a, b) g }))

@@ -5,11 +5,8 @@ use systems::Refusal;
 use systems::System;
 ghost use mathlib.Core.Path.{_≡_};
 ghost use mathlib.Core.Bool.{_&&_};
-ghost use mathlib.Core.List.{_++_};
-ghost use Prim.Native.Nat.{_+_, _*_, _≤_};
 ghost use lib.Dec.{leb};
-ghost use lib.ListN.{length, drop};
-ghost use Rattle.row.specs.Row.{rowBlock};
+ghost use lib.ListN.{length};
 ghost use Rattle.picture.specs.declared.Phase.the-variants.{Fresh};
 ghost use Rattle.picture.specs.Picture.{at, beginIn, begin, opening, rowOpen, rowing, bufferBy, bufferAfter, closing, toldPicture};
 

@@ -1,4 +1,5 @@
-// A picture taken row by row (document 01, 'Picture').
+// A picture taken row by row (document 01, 'Picture'). proofs/Demand.antt has the theorem over every list of these calls
+// (demand 3), and docs/THEOREM.md explains it.
 use row::write_row;
 use systems::Named;
 use systems::Refusal;

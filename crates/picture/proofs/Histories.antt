@@ -18,7 +18,8 @@ use Rattle.picture.specs.declared.Phase.the-variants.{Fresh, Open, Close
 use Rattle.picture.specs.declared.Picture.{Picture}
 use Rattle.picture.specs.declared.Change.{Change}
 use Rattle.picture.specs.declared.Change.the-variants as change
-use Rattle.picture.specs.Picture.{at, toldPicture, widthOk, heightOk, begun, begin, openFrom, blockLength, more, rowOpen, rowFrom, bufferAfter, closeFrom}
+use Rattle.block.specs.Read.{widthOk}
+use Rattle.picture.specs.Picture.{at, toldPicture, heightOk, begun, begin, openFrom, blockLength, more, rowOpen, rowFrom, bufferAfter, closeFrom}
 use Rattle.picture.specs.Book.{Call, opens, rows, closes, Heard}
 use Rattle.picture.proofs.Calls.{heardOf, leads, Lent, Lights, Ran, ends, after-open, after-row, after-close, History}
 use Rattle.picture.proofs.Steps.{Names, names, nothing, named-in-range, beginAs}

@@ -9,6 +9,7 @@ use Rattle.exact.specs.Outcome.{Outcome, accepted, refused, _and-then_, require
 use Rattle.systems.specs.declared.System.{System}
 use Rattle.systems.specs.Systems.{named}
 use Rattle.systems.specs.Refusals.{refusal}
+use Rattle.block.specs.Read.{widthOk}
 use Rattle.row.specs.Row.{rowBlock}
 use Rattle.picture.specs.declared.Opened.{Opened}
 use Rattle.picture.specs.declared.Phase.{Phase}
@@ -21,10 +22,7 @@ use Rattle.picture.specs.declared.Change.the-variants as change
 abbrev pub at : Phase → Picture
 at f = record { phase = f }
 
--- width 1 to 7680, height 1 to 4320
-abbrev pub widthOk : ℕ → Bool
-widthOk w = leb 1 w && leb w 7680
-
+-- a height of 1 to 4320; a width is as in a block, 1 to 7680
 abbrev pub heightOk : ℕ → Bool
 heightOk h = leb 1 h && leb h 4320
 

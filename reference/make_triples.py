@@ -9,9 +9,9 @@ All numbers are unsigned, low byte first. The same bytes come at every run.
   last four 0 where refused).
 """
 
-from fractions import Fraction
-from heapq import nsmallest
+from functools import partial
 from itertools import product
+from math import lcm
 from pathlib import Path
 from struct import pack
 
@@ -26,8 +26,7 @@ GRID_LEVELS = 40
 STEPS_PER_EDGE = 16
 MOST_GREYS = 450
 RANDOM_PER_SYSTEM = 1000
-SEARCHED_FOR_HALVES = 10000
-NEAREST_HALVES = 60
+NEAR_HALVES = 100
 
 BAD_SYSTEMS = (0, 5, 257, 65537, 2**32 - 1)
 
@@ -63,12 +62,26 @@ def random_triples(random, of, count):
     return [tuple(random.of(values) for values in of) for _ in range(count)]
 
 
-def near_halves(values, system, triples):
-    """For each component the triples whose exact value lies nearest to a half, where rounding is decided."""
-    valued = [(values(system, triple), triple) for triple in triples]
+def with_component(triple, axis, value):
+    return (*triple[:axis], value, *triple[axis + 1 :])
+
+
+def nearest_half_along(values, i, triple, axis, candidates):
+    """The triple with the candidate on an axis that brings value i nearest to a half. A value is affine in each component."""
+    start, after = (values(with_component(triple, axis, x))[i] for x in (0, 1))
+    whole = lcm(2, start.denominator, after.denominator)
+    first, step = int(start * whole), int((after - start) * whole)
+    best = min(candidates, key=lambda x: abs((first + step * x) % whole - whole // 2))
+    return with_component(triple, axis, best)
+
+
+def near_halves(values, random, of):
+    """Triples with a value at a half or close to one, where rounding is decided: a search along each axis from random triples."""
     for i in range(3):
-        nearest = nsmallest(NEAREST_HALVES, valued, key=lambda case: abs(case[0][i] % 1 - Fraction(1, 2)))
-        yield from (triple for _, triple in nearest)
+        for triple in random_triples(random, of, NEAR_HALVES):
+            for axis in range(3):
+                triple = nearest_half_along(values, i, triple, axis, of[axis])
+            yield triple
 
 
 def code_triples(system, random):
@@ -77,20 +90,17 @@ def code_triples(system, random):
     yield from edges(of)
     yield from greys(system)
     yield from random_triples(random, of, RANDOM_PER_SYSTEM)
-    yield from near_halves(rows.word_values, system, random_triples(random, of, SEARCHED_FOR_HALVES))
+    yield from near_halves(partial(rows.word_values, system), random, of)
 
 
 def word_triples(system, random):
     """Words of codes, and any nominal words, most of which no camera makes."""
-    codes = (nominal_codes(system),) * 3
     yield from (rows.words_of_codes(system, triple) for triple in code_triples(system, random))
     of = ranges(system)
     yield from corners(of)
     yield from edges(of)
     yield from random_triples(random, of, RANDOM_PER_SYSTEM)
-    yield from near_halves(rows.code_values, system, random_triples(random, of, SEARCHED_FOR_HALVES))
-    made = [rows.words_of_codes(system, triple) for triple in random_triples(random, codes, SEARCHED_FOR_HALVES)]
-    yield from near_halves(rows.code_values, system, made)
+    yield from near_halves(partial(rows.code_values, system), random, of)
 
 
 def outside(of, random):

@@ -4,3 +4,4 @@ pub mod Decoding
 pub mod Reading
 pub mod Bytes
 pub mod ReadBack
+pub mod Tellable

@@ -22,6 +22,7 @@ pub enum LightCode {
 }
 
 // The lights from least to greatest, both included.
+#[repr(C)]
 pub struct Span {
     pub least: u16,
     pub greatest: u16,

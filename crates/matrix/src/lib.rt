@@ -16,6 +16,7 @@ ghost use Rattle.matrix.specs.Triples.{wordsAt, codesAt, wordsOfCodes, c
 ghost use Rattle.matrix.specs.Rows.{NominalCodes, NominalWords, Small, dotted, encodingRows, colourDifference, componentsAt, decodingRows, primariesAt};
 
 // Y', Cb and Cr words of a sample.
+#[repr(C)]
 pub struct Words {
     pub y: u16,
     pub cb: u16,

@@ -64,9 +64,9 @@ blocks-append : {bs ds : List (List ℕ)} {es fs : List Entry} → Blocks bs es 
 blocks-append none y = y
 blocks-append (one r x) y = one r (blocks-append x y)
 
-record After (p : Picture) (cs : List Call) (hs : List Heard) (ls : List Lent) (q : Picture) : Type 0 where
-  demanded : Demanded (stateOf (p .phase)) cs hs ls q
-  proper : Proper (q .phase)
+pub record After (p : Picture) (cs : List Call) (hs : List Heard) (ls : List Lent) (q : Picture) : Type 0 where
+  pub demanded : Demanded (stateOf (p .phase)) cs hs ls q
+  pub proper : Proper (q .phase)
 
 -- an open or a close: no buffer, no entry
 call-then : {f : Phase} {c : Call} {o : Outcome Picture} {cs : List Call} {hs : List Heard} {ls : List Lent} {q : Picture} → InStep f c o → entered (stateOf f) c ≡ []
@@ -94,7 +94,8 @@ no-entry : (t : Bool) → choose {A = List Entry} t [] [] ≡ []
 no-entry true = refl
 no-entry false = refl
 
-run : {p q : Picture} {cs : List Call} {hs : List Heard} {ls : List Lent} → Proper (p .phase) → Ran p cs hs ls q → After p cs hs ls q
+-- from any picture that calls can reach
+pub run : {p q : Picture} {cs : List Call} {hs : List Heard} {ls : List Lent} → Proper (p .phase) → Ran p cs hs ls q → After p cs hs ls q
 unfolding heardFrom entriesFrom stateFrom kept Unchanged
 run g ends = record { demanded = record { heard = refl; state = refl; unchanged = tt; blocks = none }; proper = g }
 run {p} g (after-open {n = n} {w = w} {h = h} r p′ n′ w′ h′ post rest) =

@@ -5,5 +5,7 @@ mod Neighbours
 mod Rows
 pub mod Steps
 pub mod Demand
+pub mod Resume
+pub mod Tellable
 pub mod Histories
 pub mod Whole

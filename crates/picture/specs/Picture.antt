@@ -26,6 +26,23 @@ at f = record { phase = f }
 abbrev pub heightOk : ℕ → Bool
 heightOk h = leb 1 h && leb h 4320
 
+-- an open picture that calls can make
+unfoldable pub proper : Opened → Bool
+proper o = (widthOk (o .width) && heightOk (o .height)) && leb (o .rows) (o .height)
+
+-- the picture at a phase that a caller kept: any other open one is taken as fresh
+abbrev pub resumedIf : Bool → Opened → Picture
+resumedIf true o = at (Open o)
+resumedIf false o = at Fresh
+
+abbrev pub resumedOpen : Opened → Picture
+resumedOpen o = resumedIf (proper o) o
+
+abbrev pub resumed : Phase → Picture
+resumed Fresh = at Fresh
+resumed (Open o) = resumedOpen o
+resumed Closed = at Closed
+
 -- open with these, no row accepted
 abbrev pub begun : System → ℕ → ℕ → Picture
 begun y w h = at (Open (record { system = y; width = w; height = h; rows = 0 }))

@@ -9,7 +9,7 @@ ghost use mathlib.Core.Bool.{_&&_};
 ghost use lib.Dec.{leb};
 ghost use lib.ListN.{length};
 ghost use Rattle.picture.specs.declared.Phase.the-variants.{Fresh};
-ghost use Rattle.picture.specs.Picture.{at, beginIn, begin, opening, rowOpen, rowing, bufferBy, bufferAfter, closing, toldPicture};
+ghost use Rattle.picture.specs.Picture.{at, resumed, resumedOpen, proper, beginIn, begin, opening, rowOpen, rowing, bufferBy, bufferAfter, closing, toldPicture};
 
 // What an open picture was opened with, and how many of its rows were accepted.
 pub struct Opened {
@@ -26,7 +26,7 @@ pub enum Phase {
 }
 
 pub struct Picture {
-    pub phase: Phase,
+    phase: Phase,
 }
 
 // What a call makes of a picture. A refused picture stays as it was.
@@ -46,6 +46,25 @@ impl Picture {
         Picture {
             phase: Phase::Fresh,
         }
+    }
+
+    // The picture at a phase that a caller kept; an open one that no call makes is taken as fresh.
+    pub fn resume(phase: Phase) -> Picture
+        ensures { λ r. ⌜ r ≡ resumed phase ⌝ }
+    {
+        match phase {
+            Phase::Fresh => Picture::new(),
+            Phase::Open(o) => resume_open(o),
+            Phase::Closed => Picture {
+                phase: Phase::Closed,
+            },
+        }
+    }
+
+    pub fn phase(self) -> Phase
+        ensures { λ r. ⌜ r ≡ self .phase ⌝ }
+    {
+        self.phase
     }
 
     // Refused: 21, then 1, 2, 3.
@@ -91,6 +110,27 @@ impl Picture {
             Phase::Closed => Change::Refused(Refusal::NotOpen),
         }
     }
+}
+
+fn resume_open(o: Opened) -> Picture
+    ensures { λ r. ⌜ r ≡ resumedOpen o ⌝ }
+{
+    if is_proper(o) {
+        Picture {
+            phase: Phase::Open(o),
+        }
+    } else {
+        Picture::new()
+    }
+}
+
+// Whether calls can make it.
+fn is_proper(o: Opened) -> bool
+    ensures { λ r. ⌜ r ≡ proper o ⌝ }
+{
+    is_size(o.width as u32, MOST_SAMPLES)
+        & is_size(o.height as u32, MOST_ROWS)
+        & (o.rows <= o.height)
 }
 
 fn begin(system: u32, width: u32, height: u32) -> Change

@@ -10,6 +10,7 @@ ghost use lib.Dec.{T};
 ghost use Rattle.signals.specs.Signals.{inUnit, allInUnit, component, codesAt, signalCodes, nearest, signalsAt, codeSignals, quantised, restored};
 
 // A triple of signals E', each from 0 to 1.
+#[repr(C)]
 pub struct Signals {
     pub r: f32,
     pub g: f32,

@@ -1,2 +1,3 @@
 pub mod Scales
 pub mod Ranges
+pub mod Tellable

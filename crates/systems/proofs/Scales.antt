@@ -18,6 +18,13 @@ bits-range Bt709Bits10 = omega arith
 bits-range Bt2020Bits10 = omega arith
 bits-range Bt2020Bits12 = omega arith
 
+-- a system's number is a byte
+pub number-small : (y : System) → number y < 256
+number-small Bt709Bits8 = omega arith
+number-small Bt709Bits10 = omega arith
+number-small Bt2020Bits10 = omega arith
+number-small Bt2020Bits12 = omega arith
+
 pub scale-range : (y : System) → (0 < scale y) × (scale y ≤ 16)
 scale-range Bt709Bits8 = omega arith
 scale-range Bt709Bits10 = omega arith
@@ -30,6 +37,13 @@ scale-by-shift Bt709Bits8 = refl
 scale-by-shift Bt709Bits10 = refl
 scale-by-shift Bt2020Bits10 = refl
 scale-by-shift Bt2020Bits12 = refl
+
+-- a system's number names it
+pub named-number : (y : System) → named (number y) ≡ accepted y
+named-number Bt709Bits8 = refl
+named-number Bt709Bits10 = refl
+named-number Bt2020Bits10 = refl
+named-number Bt2020Bits12 = refl
 
 -- a number that no system has is refused
 pub unnamed : (n : ℕ) → (n ≡ 1 → ⊥) → (n ≡ 2 → ⊥) → (n ≡ 3 → ⊥) → (n ≡ 4 → ⊥) → named n ≡ refused 1

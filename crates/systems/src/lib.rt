@@ -40,6 +40,7 @@ pub struct Range {
 }
 
 // R', G' and B' codes of a sample.
+#[repr(C)]
 pub struct Codes {
     pub r: u16,
     pub g: u16,

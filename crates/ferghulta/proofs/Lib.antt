@@ -1,0 +1,5 @@
+pub mod Runs
+pub mod Kept
+pub mod Door
+pub mod Histories
+pub mod Whole

@@ -1,0 +1,31 @@
+use Prim.Native.Nat.{ℕ}
+use mathlib.Core.Path.{ap, sym, _∙_}
+use borrow.Author.Needs.{needs}
+use Rattle.exact.specs.Outcome.{refused}
+use Rattle.light.specs.Light.{toldSpan}
+use Rattle.ferghulta.specs.Answers.{spanAnswer}
+use Rattle.ferghulta.proofs.calls.ferghulta_span_of_code.Statement.{statement}
+use Rattle.ferghulta.proofs.calls.ferghulta_span_of_code.Tie as tie
+
+span-of-code-requires : tie.Need-span-of-code-requires
+span-of-code-requires c κs = search needs
+
+enum-known-span : tie.Need-enum-known-span
+enum-known-span c = search needs
+
+enum-known-r : tie.Need-enum-known-r
+enum-known-r c = search needs
+
+number-requires : tie.Need-number-requires
+number-requires c κs = search needs
+
+returns : tie.Need-returns
+returns c = ap spanAnswer (sym (ap toldSpan (c .before .span .given .1)) ∙ c .before .before .before .span-of-code .ensures)
+
+returns-2 : tie.Need-returns-2
+returns-2 c = ap (λ (n : ℕ). spanAnswer (refused n)) (c .number .ensures) ∙ ap spanAnswer (sym (ap toldSpan (c .before .before .r .given .1)) ∙ c .before .before .before .before .span-of-code .ensures)
+
+pub ferghulta-span-of-code-spec : {M : Type 1} → statement M
+ferghulta-span-of-code-spec =
+    tie.close
+    (tie.spec span-of-code-requires enum-known-span enum-known-r number-requires returns returns-2)

@@ -1,0 +1,39 @@
+use borrow.Author.Tests.{ne-eqb}
+use borrow.Author.Needs.{needs}
+use Rattle.ferghulta.proofs.picture_kept.picture_of.Statement.{statement}
+use Rattle.ferghulta.proofs.picture_kept.picture_of.Tie as tie
+
+open-phase-requires : tie.Need-open-phase-requires
+open-phase-requires c κs = search needs
+
+resume-requires : tie.Need-resume-requires
+resume-requires c κs = search needs
+
+resume-requires-2 : tie.Need-resume-requires-2
+resume-requires-2 c κs = search needs
+
+new-requires : tie.Need-new-requires
+new-requires c κs = search needs
+
+returns : tie.Need-returns
+returns c = simp (c .before .before .match .keys1, c .before .open-phase .ensures, c .resume .ensures)
+
+returns-2 : tie.Need-returns-2
+returns-2 c = simp (c .before .match .keys2, c .resume2 .ensures)
+
+returns-3 : tie.Need-returns-3
+returns-3 c =
+    let r = c .before .match .rest in
+    simp (ne-eqb _ 1 (r .0 .1), ne-eqb _ 2 (r .1), c .new .ensures)
+
+pub picture-of-spec : {M : Type 1} → statement M
+picture-of-spec =
+    tie.close
+    (tie.spec
+    open-phase-requires
+    resume-requires
+    resume-requires-2
+    new-requires
+    returns
+    returns-2
+    returns-3)

@@ -1,0 +1,73 @@
+// The calls on a picture. A refused call gives back the picture that it was given.
+ghost use mathlib.Core.Path.{_≡_};
+ghost use lib.ListN.{length};
+ghost use Rattle.picture.specs.declared.Phase.the-variants.{Fresh};
+ghost use Rattle.picture.specs.Picture.{at, opening, rowing, bufferAfter, closing, toldPicture};
+ghost use Rattle.ferghulta.specs.Kept.{kept, pictureOf, pictureAnswer};
+use crate::picture_kept::KeptPicture;
+use crate::picture_kept::kept;
+use crate::picture_kept::picture_of;
+use picture::Change;
+use picture::Picture;
+
+#[repr(C)]
+pub struct PictureAnswer {
+    pub refusal: u32,
+    pub picture: KeptPicture,
+}
+
+#[no_mangle]
+pub extern "C" fn ferghulta_new() -> KeptPicture
+    ensures { λ r. ⌜ r ≡ kept (at Fresh) ⌝ }
+{
+    kept(Picture::new())
+}
+
+#[no_mangle]
+pub extern "C" fn ferghulta_open(
+    picture: KeptPicture,
+    system: u32,
+    width: u32,
+    height: u32,
+) -> PictureAnswer
+    ensures { λ r. ⌜ r ≡ pictureAnswer picture (opening (pictureOf picture) system width height) ⌝ }
+{
+    let p = picture_of(picture);
+    answer(picture, p.open(system, width, height))
+}
+
+#[no_mangle]
+pub extern "C" fn ferghulta_row(
+    picture: KeptPicture,
+    lights: &[u16],
+    out: &mut [u8],
+) -> PictureAnswer
+    ensures { λ r. ⌜ r ≡ pictureAnswer picture (rowing (pictureOf picture) (now (lights .entry)) (length (now (out .entry)))) ⌝ }
+    ensures { λ r. ⌜ now (out .exit) ≡ bufferAfter (pictureOf picture) (now (lights .entry)) (now (out .entry)) ⌝ }
+{
+    let p = picture_of(picture);
+    answer(picture, p.row(lights, out))
+}
+
+#[no_mangle]
+pub extern "C" fn ferghulta_close(picture: KeptPicture) -> PictureAnswer
+    ensures { λ r. ⌜ r ≡ pictureAnswer picture (closing (pictureOf picture)) ⌝ }
+{
+    let p = picture_of(picture);
+    answer(picture, p.close())
+}
+
+fn answer(given: KeptPicture, change: Change) -> PictureAnswer
+    ensures { λ r. ⌜ r ≡ pictureAnswer given (toldPicture change) ⌝ }
+{
+    match change {
+        Change::To(p) => PictureAnswer {
+            refusal: 0,
+            picture: kept(p),
+        },
+        Change::Refused(r) => PictureAnswer {
+            refusal: r.number(),
+            picture: given,
+        },
+    }
+}

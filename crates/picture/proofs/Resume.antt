@@ -1,0 +1,40 @@
+-- Whatever phase a caller kept, calls can make the picture that it is resumed as; and what calls can make is resumed as it was.
+-- Assumes nothing.
+use mathlib.Core.Path.{_≡_, refl, ap}
+use mathlib.Core.Bool.{Bool, true, false}
+use lib.Dec.{leb}
+use borrow.Author.Tests.{le-leb, leb-true}
+use Rattle.exact.proofs.Boolean.{each-of-three}
+use Rattle.block.specs.Read.{widthOk}
+use Rattle.picture.specs.declared.Opened.{Opened}
+use Rattle.picture.specs.declared.Phase.{Phase}
+use Rattle.picture.specs.declared.Phase.the-variants.{Fresh, Open, Closed}
+use Rattle.picture.specs.Picture.{at, heightOk, proper, resumedIf, resumed}
+use Rattle.picture.proofs.Ranges.{in-range}
+use Rattle.picture.proofs.Claims.{Sized, Proper}
+
+proper-sized : (o : Opened) → proper o ≡ true → Sized o
+unfolding proper
+proper-sized o e =
+    let three = each-of-three (widthOk (o .width)) (heightOk (o .height)) (leb (o .rows) (o .height)) e in
+    let w = in-range (o .width) 1 7680 (three .0) in
+    let h = in-range (o .height) 1 4320 (three .1) in
+    record { width-from = w .0; width-to = w .1; height-from = h .0; height-to = h .1; rows-to = leb-true (o .rows) (o .height) (three .2) }
+
+sized-proper : (o : Opened) → Sized o → proper o ≡ true
+unfolding proper
+sized-proper o g = simp (le-leb _ _ (g .width-from), le-leb _ _ (g .width-to), le-leb _ _ (g .height-from), le-leb _ _ (g .height-to), le-leb _ _ (g .rows-to))
+
+pub resumed-proper : (f : Phase) → Proper (resumed f .phase)
+resumed-proper Fresh = tt
+resumed-proper (Open o) = go (proper o) refl
+  where
+    go : (b : Bool) → proper o ≡ b → Proper (resumedIf b o .phase)
+    go true e = proper-sized o e
+    go false e = tt
+resumed-proper Closed = tt
+
+pub resumed-same : (f : Phase) → Proper f → resumed f ≡ at f
+resumed-same Fresh g = refl
+resumed-same (Open o) g = ap (λ (b : Bool). resumedIf b o) (sized-proper o g)
+resumed-same Closed g = refl

@@ -1,20 +1,22 @@
-/* Ferghulta: rows of linear light become Y'CbCr words of BT.709 and BT.2020 in 4:4:4, in row blocks, and blocks are read back.
+/* Ferghulta: rows of linear light become Y'CbCr words of BT.709 and BT.2020 in 4:4:4, in row blocks, and blocks are
+ * read back. The archive is for x86-64 Linux and calls nothing else, not even the C library.
  *
- * Systems: 1 is BT.709 at 8 bits, 2 BT.709 at 10 bits, 3 BT.2020 at 10 bits, 4 BT.2020 at 12 bits; s is 1, 4, 4, 16.
- * Nominal R', G', B' and Y' run from 16s to 235s, nominal Cb and Cr from 16s to 240s.
+ * Every call is proved to give the answer that the definitions in crates/ have for its arguments, whatever they are. No
+ * call keeps a pointer, allocates, or reads or writes anything but its arguments and the memory that it is lent; none
+ * has a state of its own, so calls may run at once in several threads.
  *
- * Every call is proved to give the answer that the definitions in crates/ have for its arguments, whatever they are. No call keeps a
- * pointer, allocates, or reads or writes anything but its arguments and the memory that it is lent; none has a state of its own, so
- * calls may run at once in several threads. What a caller owes: a pointer and a count are of memory that is lent for the call, with
- * nothing else writing it, and a pointer that is written is of memory that no other argument shares. A pointer with a count of 0 must
- * not be null either, and is not followed.
+ * What a caller owes: a pointer and a count are of memory that is lent for the call, with nothing else writing it, and
+ * memory that is written is shared with no other argument. A pointer with a count of 0 must not be null either, and is
+ * not followed. The calls on signals need floating point as a C program starts with it: rounding to nearest, subnormals
+ * kept (a program linked with -ffast-math drops them, and a signal just below 0 would pass for 0).
  *
- * An answer has a field `refusal`: 0 where the call was accepted, else the number of the refusal. Then the answer's other numbers are
- * 0, lent memory is as it was, and a picture comes back as it was given.
+ * An answer has a field `refusal`: 0 where the call was accepted, else the number of the refusal. Then the answer's
+ * other numbers are 0, lent memory is as it was, and a picture comes back as it was given.
  */
 #ifndef FERGHULTA_H
 #define FERGHULTA_H
 
+#include <assert.h>
 #include <stddef.h>
 #include <stdint.h>
 
@@ -27,80 +29,145 @@
 extern "C" {
 #endif
 
-/* What a refusal's number says. State is tested first, then input in the order of the numbers; a block as ferghulta_read_block says. */
-enum ferghulta_refusal {
-    FERGHULTA_ACCEPTED = 0,
-    FERGHULTA_SYSTEM = 1,       /* system not 1 to 4 */
-    FERGHULTA_WIDTH = 2,        /* width not 1 to 7680 */
-    FERGHULTA_HEIGHT = 3,       /* height not 1 to 4320 */
-    FERGHULTA_LIGHTS = 4,       /* lights not 3 * width */
-    FERGHULTA_OUTPUT = 5,       /* lent output too short */
-    FERGHULTA_CODE = 6,         /* code or word outside nominal */
-    FERGHULTA_SIGNAL = 7,       /* signal below 0, above 1, or not a number */
-    FERGHULTA_BLOCK_END = 8,    /* block ends too early */
-    FERGHULTA_COUNT = 9,        /* count 0, above 7680, or unlike the Y' count */
-    FERGHULTA_ROW_NUMBER = 10,  /* block's row number above 4319 */
-    FERGHULTA_BYTES_AFTER = 11, /* bytes after the Cr section */
-    FERGHULTA_ALREADY_OPEN = 21,/* open while open */
-    FERGHULTA_NOT_OPEN = 22,    /* row or close while not open */
-    FERGHULTA_ALL_ROWS = 23,    /* row when all rows are accepted */
-    FERGHULTA_ROWS_MISSING = 24 /* close with rows missing */
+/* A system is a matrix and a bit depth n; its scale s is 2^(n - 8). Nominal R', G', B' and Y' run from 16s to 235s,
+ * nominal Cb and Cr from 16s to 240s. Calls take the system as a uint32_t and refuse any other number. */
+enum ferghulta_system {
+    FERGHULTA_BT709_8 = 1,   /* s = 1 */
+    FERGHULTA_BT709_10 = 2,  /* s = 4 */
+    FERGHULTA_BT2020_10 = 3, /* s = 4 */
+    FERGHULTA_BT2020_12 = 4  /* s = 16 */
 };
 
-/* ---- light and code */
+/* What a refusal's number says. State (21 to 24) is tested first, then input in the order of the numbers; the tests of
+ * a block are in the order that ferghulta_read_block names. */
+enum ferghulta_refusal {
+    FERGHULTA_ACCEPTED = 0,
+    FERGHULTA_SYSTEM = 1,        /* system not 1 to 4 */
+    FERGHULTA_WIDTH = 2,         /* width not 1 to 7680 */
+    FERGHULTA_HEIGHT = 3,        /* height not 1 to 4320 */
+    FERGHULTA_LIGHTS = 4,        /* lights not 3 * width */
+    FERGHULTA_OUTPUT = 5,        /* lent output too short */
+    FERGHULTA_CODE = 6,          /* code or word outside nominal */
+    FERGHULTA_SIGNAL = 7,        /* signal below 0, above 1, or not a number */
+    FERGHULTA_BLOCK_END = 8,     /* block ends too early */
+    FERGHULTA_COUNT = 9,         /* count 0, above 7680, or unlike the Y' count */
+    FERGHULTA_ROW_NUMBER = 10,   /* block's row number above 4319 */
+    FERGHULTA_BYTES_AFTER = 11,  /* bytes after the Cr section */
+    FERGHULTA_ALREADY_OPEN = 21, /* open while open */
+    FERGHULTA_NOT_OPEN = 22,     /* row or close while not open */
+    FERGHULTA_ALL_ROWS = 23,     /* row when all rows are accepted */
+    FERGHULTA_ROWS_MISSING = 24  /* close with rows missing */
+};
 
-typedef struct { uint32_t refusal; uint16_t code; } ferghulta_code_answer;
-typedef struct { uint16_t least, greatest; } ferghulta_span;
-typedef struct { uint32_t refusal; ferghulta_span span; } ferghulta_span_answer;
+/* ---- Light and code. A light k, 0 to 65535, means the linear light k / 65535. */
 
-/* The R', G' or B' code of a light, 0 to 65535. Refused: 1. */
+typedef struct ferghulta_code_answer {
+    uint32_t refusal;
+    uint16_t code;
+} ferghulta_code_answer;
+
+/* The R', G' or B' code of a light. Refused: 1. */
 ferghulta_code_answer ferghulta_code_of_light(uint32_t system, uint16_t light);
 
-/* The least and the greatest light of a nominal code. Refused: 1, 6. */
+/* The lights from least to greatest, both included. */
+typedef struct ferghulta_span {
+    uint16_t least, greatest;
+} ferghulta_span;
+
+typedef struct ferghulta_span_answer {
+    uint32_t refusal;
+    ferghulta_span span;
+} ferghulta_span_answer;
+
+/* The lights of a nominal R', G' or B' code; each code has at least one. Refused: 1, 6. */
 ferghulta_span_answer ferghulta_span_of_code(uint32_t system, uint16_t code);
 
-/* ---- triples */
+/* ---- Triples: the signals E' (0 to 1), the codes or the words of one sample. */
 
-typedef struct { float r, g, b; } ferghulta_signals;
-typedef struct { uint16_t r, g, b; } ferghulta_codes;
-typedef struct { uint16_t y, cb, cr; } ferghulta_words;
-typedef struct { uint32_t refusal; ferghulta_signals signals; } ferghulta_signals_answer;
-typedef struct { uint32_t refusal; ferghulta_codes codes; } ferghulta_codes_answer;
-typedef struct { uint32_t refusal; ferghulta_words words; } ferghulta_words_answer;
-typedef struct { uint32_t refusal; uint32_t clipped; ferghulta_codes codes; } ferghulta_decoded_answer;
+typedef struct ferghulta_signals {
+    float r, g, b;
+} ferghulta_signals;
 
-/* The codes of three signals from 0 to 1. Refused: 1, 7. */
+typedef struct ferghulta_codes {
+    uint16_t r, g, b;
+} ferghulta_codes;
+
+typedef struct ferghulta_words {
+    uint16_t y, cb, cr;
+} ferghulta_words;
+
+typedef struct ferghulta_codes_answer {
+    uint32_t refusal;
+    ferghulta_codes codes;
+} ferghulta_codes_answer;
+
+/* The codes of three signals, each of its exact value; negative zero is zero. Refused: 1, 7. */
 ferghulta_codes_answer ferghulta_codes_of_signals(uint32_t system, ferghulta_signals signals);
+
+typedef struct ferghulta_signals_answer {
+    uint32_t refusal;
+    ferghulta_signals signals;
+} ferghulta_signals_answer;
 
 /* The floats nearest to the signals of three nominal codes; they quantise to these codes again. Refused: 1, 6. */
 ferghulta_signals_answer ferghulta_signals_of_codes(uint32_t system, ferghulta_codes codes);
 
+typedef struct ferghulta_words_answer {
+    uint32_t refusal;
+    ferghulta_words words;
+} ferghulta_words_answer;
+
 /* Y', Cb and Cr of nominal R', G', B' codes. Refused: 1, 6. */
 ferghulta_words_answer ferghulta_words_of_codes(uint32_t system, ferghulta_codes codes);
 
-/* R', G' and B' of nominal words, and how many of the three were clipped to nominal. Refused: 1, 6. */
+typedef struct ferghulta_decoded_answer {
+    uint32_t refusal;
+    uint32_t clipped; /* how many of the three codes were beyond nominal and brought to its nearer end */
+    ferghulta_codes codes;
+} ferghulta_decoded_answer;
+
+/* R', G' and B' of nominal words. Refused: 1, 6. */
 ferghulta_decoded_answer ferghulta_codes_of_words(uint32_t system, ferghulta_words words);
 
-/* ---- row blocks: system (1 byte), row number (2), then Y', Cb and Cr, each a count (2) and its words (2 each); low byte first */
+/* ---- Row blocks: system (1 byte), row number (2), then Y', Cb and Cr, each a count (2) and that many words (2 each);
+ * all unsigned, low byte first. */
 
-/* The bytes of a row of so many samples, and the 16-bit words of its codes. */
-#define FERGHULTA_BLOCK_BYTES(width) (9 + 6 * (size_t)(width))
-#define FERGHULTA_ROW_CODES(width) (3 * (size_t)(width))
 #define FERGHULTA_MOST_SAMPLES 7680
 #define FERGHULTA_MOST_ROWS 4320
 
-typedef struct { uint32_t refusal; uint32_t system; uint32_t clipped; uint16_t row, samples; } ferghulta_block_answer;
+/* The bytes of the block of a row of `width` samples, and how many lights or codes such a row has. */
+#define FERGHULTA_BLOCK_BYTES(width) (9 + 6 * (size_t)(width))
+#define FERGHULTA_ROW_CODES(width) (3 * (size_t)(width))
 
-/* Reads one block of `length` bytes: R, G, B of each sample to the front of `codes`, which has `places` words; later words stay.
- * Refused, from the front: 8 (fewer than 3 bytes), 1, 10; at each section 8 (count missing), 9, 8 (words missing); then 11, 6, 5. */
+typedef struct ferghulta_block_answer {
+    uint32_t refusal;
+    uint32_t system;
+    uint32_t clipped; /* the sum over all samples of the row */
+    uint16_t row, samples;
+} ferghulta_block_answer;
+
+/* Reads the one block that the `length` bytes are: R, G, B of each sample go to the front of `codes`, which has room
+ * for `places` codes; what lies beyond stays. Refused, from the front: 8 (fewer than 3 bytes), 1, 10; at each section
+ * 8 (count missing), 9, 8 (words missing); then 11, 6, 5 (places below 3 * samples). */
 ferghulta_block_answer ferghulta_read_block(const uint8_t *bytes, size_t length, uint16_t *codes, size_t places);
 
-/* ---- pictures */
+/* ---- Pictures. */
 
-/* A picture in eight bytes, for the caller to keep and to hand on; all zero is a fresh one. phase: 0 fresh, 1 open, 2 closed.
- * A value that no call gives (another phase, an open one with a number out of its range) is not open: it is taken as a fresh picture. */
-typedef struct { uint8_t phase, system; uint16_t width, height, rows; } ferghulta_picture;
-typedef struct { uint32_t refusal; ferghulta_picture picture; } ferghulta_picture_answer;
+enum ferghulta_phase { FERGHULTA_FRESH = 0, FERGHULTA_OPEN = 1, FERGHULTA_CLOSED = 2 };
+
+/* A picture in eight bytes, which the caller keeps: a call is given it and answers with the picture that the next call
+ * is to be given. Read its fields freely, and let the calls alone change them. While it is not open they are 0 but for
+ * the phase, so all zero is a fresh picture. A value that no call gives (another phase, or open with a number out of
+ * its range) is not open: it is taken as fresh. */
+typedef struct ferghulta_picture {
+    uint8_t phase, system;
+    uint16_t width, height, rows; /* rows: how many were accepted since open */
+} ferghulta_picture;
+
+typedef struct ferghulta_picture_answer {
+    uint32_t refusal;
+    ferghulta_picture picture;
+} ferghulta_picture_answer;
 
 /* A fresh picture. */
 ferghulta_picture ferghulta_new(void);
@@ -108,15 +175,31 @@ ferghulta_picture ferghulta_new(void);
 /* Opens a fresh or closed picture; no row is accepted yet. Refused: 21, then 1, 2, 3. */
 ferghulta_picture_answer ferghulta_open(ferghulta_picture picture, uint32_t system, uint32_t width, uint32_t height);
 
-/* Takes a row of R, G, B lights for each sample and writes its block, numbered by the rows accepted before, to the front of `out`;
- * later bytes stay. Refused: 22, 23, then 4 (count not 3 * width), 5 (room below 9 + 6 * width). */
-ferghulta_picture_answer ferghulta_row(ferghulta_picture picture, const uint16_t *lights, size_t count, uint8_t *out, size_t room);
+/* Takes a row of `count` lights, R, G, B of each sample, and writes its block, numbered by the rows accepted before, to
+ * the front of `out`, which has `room` bytes; what lies beyond stays. Refused: 22, 23, then 4 (count not 3 * width),
+ * 5 (room below 9 + 6 * width). */
+ferghulta_picture_answer ferghulta_row(ferghulta_picture picture, const uint16_t *lights, size_t count, uint8_t *out,
+                                       size_t room);
 
 /* Closes an open picture whose every row is accepted. Refused: 22, then 24. */
 ferghulta_picture_answer ferghulta_close(ferghulta_picture picture);
 
 #ifdef __cplusplus
 }
+#endif
+
+/* The layout that the archive has; this fails where structs are packed. Where an answer is 2 bytes longer than its
+ * fields, those come last and have no value: compare answers field by field. */
+#if (defined(__STDC_VERSION__) && __STDC_VERSION__ >= 201112L) || (defined(__cplusplus) && __cplusplus >= 201103L)
+static_assert(sizeof(ferghulta_code_answer) == 8, "4 + 2 + 2");
+static_assert(sizeof(ferghulta_span_answer) == 8, "4 + 4");
+static_assert(sizeof(ferghulta_codes_answer) == 12, "4 + 6 + 2");
+static_assert(sizeof(ferghulta_words_answer) == 12, "4 + 6 + 2");
+static_assert(sizeof(ferghulta_signals_answer) == 16, "4 + 12");
+static_assert(sizeof(ferghulta_decoded_answer) == 16, "4 + 4 + 6 + 2");
+static_assert(sizeof(ferghulta_block_answer) == 16, "4 + 4 + 4 + 4");
+static_assert(sizeof(ferghulta_picture) == 8, "2 + 6");
+static_assert(sizeof(ferghulta_picture_answer) == 12, "4 + 8");
 #endif
 
 #endif

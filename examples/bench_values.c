@@ -1,0 +1,134 @@
+/* The document's bench values through the C interface, every call at least once: header, archive and compiler agree.
+ * `make check-c` builds it as C and as C++ and runs both. */
+#include <stdio.h>
+#include <string.h>
+
+#include "ferghulta.h"
+
+enum { WIDEST = FERGHULTA_MOST_SAMPLES };
+
+static unsigned tried, wrong;
+
+static void expect(const char *what, unsigned long got, unsigned long wanted) {
+    tried++;
+    if (got == wanted) return;
+    wrong++;
+    printf("%s: %lu, not %lu\n", what, got, wanted);
+}
+
+static void expect_light(uint32_t system, uint16_t k, uint16_t code) {
+    ferghulta_code_answer answer = ferghulta_code_of_light(system, k);
+    expect("light accepted", answer.refusal, 0);
+    expect("code of light", answer.code, code);
+}
+
+/* The signal's code as each component in turn, and the code's signal back to the code. */
+static void expect_signal(uint32_t system, float e, uint16_t code, uint16_t black) {
+    ferghulta_signals signals[3] = {{e, 0, 0}, {0, e, 0}, {0, 0, e}};
+    for (int i = 0; i < 3; i++) {
+        ferghulta_codes c = ferghulta_codes_of_signals(system, signals[i]).codes;
+        expect("R' of signals", c.r, i == 0 ? code : black);
+        expect("G' of signals", c.g, i == 1 ? code : black);
+        expect("B' of signals", c.b, i == 2 ? code : black);
+        ferghulta_signals_answer back = ferghulta_signals_of_codes(system, c);
+        expect("codes accepted", back.refusal, 0);
+        ferghulta_codes again = ferghulta_codes_of_signals(system, back.signals).codes;
+        expect("codes again", memcmp(&again, &c, sizeof c) == 0, 1);
+    }
+}
+
+static void expect_words(uint32_t system, ferghulta_codes codes, ferghulta_words wanted) {
+    ferghulta_words_answer answer = ferghulta_words_of_codes(system, codes);
+    expect("codes accepted", answer.refusal, 0);
+    expect("Y'", answer.words.y, wanted.y);
+    expect("Cb", answer.words.cb, wanted.cb);
+    expect("Cr", answer.words.cr, wanted.cr);
+}
+
+static void expect_codes(uint32_t system, ferghulta_words words, ferghulta_codes wanted, uint32_t clipped) {
+    ferghulta_decoded_answer answer = ferghulta_codes_of_words(system, words);
+    expect("words accepted", answer.refusal, 0);
+    expect("clipped", answer.clipped, clipped);
+    expect("R'", answer.codes.r, wanted.r);
+    expect("G'", answer.codes.g, wanted.g);
+    expect("B'", answer.codes.b, wanted.b);
+}
+
+static void lights(void) {
+    static const uint16_t scales[] = {1, 4, 4, 16};
+    for (uint32_t system = 1; system <= 4; system++) {
+        expect_light(system, 0, (uint16_t)(16 * scales[system - 1]));
+        expect_light(system, 65535, (uint16_t)(235 * scales[system - 1]));
+    }
+    expect_light(1, 33, 16);
+    expect_light(1, 34, 17);
+    expect_light(1, 32768, 171);
+    expect_light(2, 32768, 682);
+    expect_light(4, 1186, 541);
+    expect_light(4, 1187, 542);
+    ferghulta_span_answer answer = ferghulta_span_of_code(1, 17);
+    expect("code accepted", answer.refusal, 0);
+    expect("least light", answer.span.least, 34);
+    expect("greatest light", answer.span.greatest, 99);
+}
+
+static void triples(void) {
+    ferghulta_codes red = {235, 16, 16}, green = {16, 235, 16}, blue = {16, 16, 235}, red10 = {940, 64, 64};
+    ferghulta_codes red_back = {235, 17, 16}, blue_back = {17, 16, 235}, clipped_codes = {188, 16, 219};
+    ferghulta_words red_words = {63, 102, 240}, green_words = {173, 42, 26}, blue_words = {32, 240, 118};
+    ferghulta_words red10_words = {294, 387, 960}, clipped_words = {16, 240, 240}, low_words = {15, 128, 128};
+    expect_signal(1, 0.5f, 126, 16);
+    expect_signal(2, 0.375f, 393, 64);
+    expect_words(1, red, red_words);
+    expect_words(1, green, green_words);
+    expect_words(1, blue, blue_words);
+    expect_words(3, red10, red10_words);
+    expect_codes(1, red_words, red_back, 0);
+    expect_codes(1, blue_words, blue_back, 0);
+    expect_codes(1, clipped_words, clipped_codes, 1);
+    expect("low words", ferghulta_codes_of_words(1, low_words).refusal, FERGHULTA_CODE);
+}
+
+static void widths(void) {
+    static uint16_t lights[FERGHULTA_ROW_CODES(WIDEST)];
+    static uint8_t block[FERGHULTA_BLOCK_BYTES(WIDEST)];
+    ferghulta_picture picture = ferghulta_new();
+    expect("width 0", ferghulta_open(picture, 1, 0, 1).refusal, FERGHULTA_WIDTH);
+    expect("width 7681", ferghulta_open(picture, 1, 7681, 1).refusal, FERGHULTA_WIDTH);
+    picture = ferghulta_open(picture, 1, WIDEST, 1).picture;
+    expect("46088 bytes", ferghulta_row(picture, lights, 3 * WIDEST, block, 46088).refusal, FERGHULTA_OUTPUT);
+    ferghulta_picture_answer answer = ferghulta_row(picture, lights, 3 * WIDEST, block, 46089);
+    expect("46089 bytes", answer.refusal, 0);
+    expect("rows accepted", answer.picture.rows, 1);
+    expect("close", ferghulta_close(answer.picture).picture.phase, FERGHULTA_CLOSED);
+}
+
+/* The block of the document's listing. */
+static void listing(void) {
+    static const uint8_t bytes[] = {1, 0, 0, 1, 0, 0xEB, 0, 1, 0, 0x80, 0, 1, 0, 0x80, 0};
+    uint16_t codes[4] = {0, 0, 0, 9};
+    ferghulta_block_answer answer = ferghulta_read_block(bytes, sizeof bytes, codes, 4);
+    expect("block accepted", answer.refusal, 0);
+    expect("block's system", answer.system, 1);
+    expect("block's row", answer.row, 0);
+    expect("block's samples", answer.samples, 1);
+    expect("block's clipped", answer.clipped, 0);
+    for (int j = 0; j < 4; j++) expect("code read", codes[j], j < 3 ? 235 : 9);
+}
+
+static void version(void) {
+    char numbers[32];
+    snprintf(numbers, sizeof numbers, "%d.%d.%d", FERGHULTA_VERSION_MAJOR, FERGHULTA_VERSION_MINOR,
+             FERGHULTA_VERSION_PATCH);
+    expect("version", strcmp(numbers, FERGHULTA_VERSION) == 0, 1);
+}
+
+int main(void) {
+    lights();
+    triples();
+    widths();
+    listing();
+    version();
+    printf("bench values: %u tried, %u wrong\n", tried, wrong);
+    return wrong != 0;
+}

@@ -1,0 +1,241 @@
+//! Ferghulta from Rust: the calls of include/ferghulta.h with enums, slices and `Result`. What the header says of each
+//! call holds here. Needs Rust 1.82; no allocator and no standard library.
+#![no_std]
+
+use core::fmt;
+
+#[derive(Clone, Copy, Debug, PartialEq, Eq)]
+#[repr(u32)]
+pub enum System {
+    Bt709Bits8 = 1,
+    Bt709Bits10 = 2,
+    Bt2020Bits10 = 3,
+    Bt2020Bits12 = 4,
+}
+
+/// Why a call was refused; as a u32 it is the document's number.
+#[derive(Clone, Copy, Debug, PartialEq, Eq)]
+#[repr(u32)]
+pub enum Refusal {
+    System = 1,
+    Width = 2,
+    Height = 3,
+    Lights = 4,
+    Output = 5,
+    Code = 6,
+    Signal = 7,
+    BlockEnd = 8,
+    Count = 9,
+    RowNumber = 10,
+    BytesAfter = 11,
+    AlreadyOpen = 21,
+    NotOpen = 22,
+    AllRows = 23,
+    RowsMissing = 24,
+}
+
+const REFUSALS: [(Refusal, &str); 15] = [
+    (Refusal::System, "system not 1 to 4"),
+    (Refusal::Width, "width not 1 to 7680"),
+    (Refusal::Height, "height not 1 to 4320"),
+    (Refusal::Lights, "lights not 3 * width"),
+    (Refusal::Output, "lent output too short"),
+    (Refusal::Code, "code or word outside nominal"),
+    (Refusal::Signal, "signal below 0, above 1, or not a number"),
+    (Refusal::BlockEnd, "block ends too early"),
+    (Refusal::Count, "count 0, above 7680, or unlike the Y' count"),
+    (Refusal::RowNumber, "block's row number above 4319"),
+    (Refusal::BytesAfter, "bytes after the Cr section"),
+    (Refusal::AlreadyOpen, "open while open"),
+    (Refusal::NotOpen, "row or close while not open"),
+    (Refusal::AllRows, "row when all rows are accepted"),
+    (Refusal::RowsMissing, "close with rows missing"),
+];
+
+/// Writes the refusal's meaning.
+impl fmt::Display for Refusal {
+    fn fmt(&self, f: &mut fmt::Formatter) -> fmt::Result {
+        let (_, meaning) = listed(*self as u32);
+        f.write_str(meaning)
+    }
+}
+
+impl core::error::Error for Refusal {}
+
+fn listed(number: u32) -> (Refusal, &'static str) {
+    let entry = REFUSALS.into_iter().find(|(r, _)| *r as u32 == number);
+    entry.expect("the header lists every number that a call gives")
+}
+
+/// The lights from least to greatest, both included.
+#[derive(Clone, Copy, Debug, PartialEq, Eq)]
+#[repr(C)]
+pub struct Span {
+    pub least: u16,
+    pub greatest: u16,
+}
+
+#[derive(Clone, Copy, Debug, PartialEq)]
+#[repr(C)]
+pub struct Signals {
+    pub r: f32,
+    pub g: f32,
+    pub b: f32,
+}
+
+#[derive(Clone, Copy, Debug, PartialEq, Eq)]
+#[repr(C)]
+pub struct Codes {
+    pub r: u16,
+    pub g: u16,
+    pub b: u16,
+}
+
+#[derive(Clone, Copy, Debug, PartialEq, Eq)]
+#[repr(C)]
+pub struct Words {
+    pub y: u16,
+    pub cb: u16,
+    pub cr: u16,
+}
+
+/// Codes, and how many of the three were clipped.
+#[derive(Clone, Copy, Debug, PartialEq, Eq)]
+#[repr(C)]
+pub struct Decoded {
+    pub clipped: u32,
+    pub codes: Codes,
+}
+
+/// What a block's header says, and the clipped total of its samples.
+#[derive(Clone, Copy, Debug, PartialEq, Eq)]
+pub struct Block {
+    pub system: System,
+    pub clipped: u32,
+    pub row: u16,
+    pub samples: u16,
+}
+
+// A block's answer as C gives it: the system of a refused one is 0, which no `System` may be.
+#[repr(C)]
+struct NumberedBlock {
+    system: u32,
+    clipped: u32,
+    row: u16,
+    samples: u16,
+}
+
+// Every answer in C is its refusal and then its values.
+#[repr(C)]
+struct Answer<T> {
+    refusal: u32,
+    values: T,
+}
+
+impl<T> Answer<T> {
+    fn result(self) -> Result<T, Refusal> {
+        match self.refusal {
+            0 => Ok(self.values),
+            number => Err(listed(number).0),
+        }
+    }
+}
+
+// The safe ones take and give plain values and touch no memory.
+#[link(name = "ferghulta", kind = "static")]
+unsafe extern "C" {
+    safe fn ferghulta_code_of_light(system: System, light: u16) -> Answer<u16>;
+    safe fn ferghulta_span_of_code(system: System, code: u16) -> Answer<Span>;
+    safe fn ferghulta_codes_of_signals(system: System, signals: Signals) -> Answer<Codes>;
+    safe fn ferghulta_signals_of_codes(system: System, codes: Codes) -> Answer<Signals>;
+    safe fn ferghulta_words_of_codes(system: System, codes: Codes) -> Answer<Words>;
+    safe fn ferghulta_codes_of_words(system: System, words: Words) -> Answer<Decoded>;
+    safe fn ferghulta_new() -> Kept;
+    safe fn ferghulta_open(picture: Kept, system: System, width: u32, height: u32) -> Answer<Kept>;
+    safe fn ferghulta_close(picture: Kept) -> Answer<Kept>;
+    fn ferghulta_row(picture: Kept, lights: *const u16, count: usize, out: *mut u8, room: usize) -> Answer<Kept>;
+    fn ferghulta_read_block(bytes: *const u8, length: usize, codes: *mut u16, places: usize) -> Answer<NumberedBlock>;
+}
+
+impl System {
+    pub const ALL: [System; 4] = [System::Bt709Bits8, System::Bt709Bits10, System::Bt2020Bits10, System::Bt2020Bits12];
+
+    /// Never refused: a `System` is one of the four, and every light has a code.
+    pub fn code_of_light(self, light: u16) -> u16 {
+        ferghulta_code_of_light(self, light).values
+    }
+
+    pub fn span_of_code(self, code: u16) -> Result<Span, Refusal> {
+        ferghulta_span_of_code(self, code).result()
+    }
+
+    pub fn codes_of_signals(self, signals: Signals) -> Result<Codes, Refusal> {
+        ferghulta_codes_of_signals(self, signals).result()
+    }
+
+    pub fn signals_of_codes(self, codes: Codes) -> Result<Signals, Refusal> {
+        ferghulta_signals_of_codes(self, codes).result()
+    }
+
+    pub fn words_of_codes(self, codes: Codes) -> Result<Words, Refusal> {
+        ferghulta_words_of_codes(self, codes).result()
+    }
+
+    pub fn codes_of_words(self, words: Words) -> Result<Decoded, Refusal> {
+        ferghulta_codes_of_words(self, words).result()
+    }
+}
+
+/// Reads one block; the codes go to the front of `codes`.
+pub fn read_block(bytes: &[u8], codes: &mut [u16]) -> Result<Block, Refusal> {
+    // SAFETY: both slices are lent for the call with their own lengths, and a slice's pointer is never null.
+    let answer = unsafe { ferghulta_read_block(bytes.as_ptr(), bytes.len(), codes.as_mut_ptr(), codes.len()) };
+    let NumberedBlock { system, clipped, row, samples } = answer.result()?;
+    Ok(Block { system: System::ALL[system as usize - 1], clipped, row, samples })
+}
+
+/// A picture, changed by its own calls alone; a refused call leaves it as it was.
+pub struct Picture(Kept);
+
+#[derive(Clone, Copy)]
+#[repr(C)]
+struct Kept {
+    phase: u8,
+    system: u8,
+    width: u16,
+    height: u16,
+    rows: u16,
+}
+
+impl Picture {
+    /// A fresh picture.
+    #[allow(clippy::new_without_default)]
+    pub fn new() -> Picture {
+        Picture(ferghulta_new())
+    }
+
+    pub fn open(&mut self, system: System, width: u32, height: u32) -> Result<(), Refusal> {
+        self.become_next(ferghulta_open(self.0, system, width, height))
+    }
+
+    /// Writes the block of a row of lights to the front of `out`.
+    pub fn row(&mut self, lights: &[u16], out: &mut [u8]) -> Result<(), Refusal> {
+        // SAFETY: both slices are lent for the call with their own lengths, and a slice's pointer is never null.
+        let answer = unsafe { ferghulta_row(self.0, lights.as_ptr(), lights.len(), out.as_mut_ptr(), out.len()) };
+        self.become_next(answer)
+    }
+
+    pub fn close(&mut self) -> Result<(), Refusal> {
+        self.become_next(ferghulta_close(self.0))
+    }
+
+    /// How many rows were accepted since open; 0 while it is not open.
+    pub fn rows(&self) -> u16 {
+        self.0.rows
+    }
+
+    fn become_next(&mut self, answer: Answer<Kept>) -> Result<(), Refusal> {
+        self.0 = answer.result()?;
+        Ok(())
+    }
+}

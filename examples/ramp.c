@@ -1,0 +1,119 @@
+/* In each system a picture is sent, rows of a ramp and of random light in turn, and read back. Then some calls that are
+ * refused. `make example` builds and runs it; examples/ramp.rs is the same program in Rust. */
+#include <stdio.h>
+#include <stdlib.h>
+
+#include "ferghulta.h"
+
+enum { WIDTH = 1920, HEIGHT = 32, LIGHTS = 3 * WIDTH };
+
+/* One row at a time: its lights, its block, and the codes that are read back. */
+static uint16_t lights[LIGHTS];
+static uint8_t block[FERGHULTA_BLOCK_BYTES(WIDTH)];
+static uint16_t codes[LIGHTS];
+
+static const char *meaning(uint32_t refusal) {
+    switch (refusal) {
+    case FERGHULTA_WIDTH: return "width not 1 to 7680";
+    case FERGHULTA_LIGHTS: return "lights not 3 * width";
+    case FERGHULTA_OUTPUT: return "lent output too short";
+    case FERGHULTA_CODE: return "code or word outside nominal";
+    case FERGHULTA_BLOCK_END: return "block ends too early";
+    case FERGHULTA_NOT_OPEN: return "row or close while not open";
+    case FERGHULTA_ROWS_MISSING: return "close with rows missing";
+    default: return "see enum ferghulta_refusal";
+    }
+}
+
+static void must_accept(uint32_t refusal) {
+    if (refusal == FERGHULTA_ACCEPTED) return;
+    fprintf(stderr, "refused %u: %s\n", (unsigned)refusal, meaning(refusal));
+    exit(EXIT_FAILURE);
+}
+
+/* R rises along the row, G falls, and B rises from row to row. */
+static void ramp(unsigned row) {
+    for (unsigned x = 0; x < WIDTH; x++) {
+        lights[3 * x] = (uint16_t)(65535 * x / (WIDTH - 1));
+        lights[3 * x + 1] = (uint16_t)(65535 - lights[3 * x]);
+        lights[3 * x + 2] = (uint16_t)(65535 * row / (HEIGHT - 1));
+    }
+}
+
+/* Marsaglia's xorshift, so that every machine and ramp.rs have the same lights. */
+static void random_light(unsigned row) {
+    uint32_t state = row + 1;
+    for (unsigned j = 0; j < LIGHTS; j++) {
+        state ^= state << 13;
+        state ^= state >> 17;
+        state ^= state << 5;
+        lights[j] = (uint16_t)(state >> 16);
+    }
+}
+
+/* The most that a code of this row is away from the code of its light, or of an earlier row. */
+static int worst_distance(uint32_t system, int worst) {
+    for (unsigned j = 0; j < LIGHTS; j++) {
+        int distance = abs(codes[j] - ferghulta_code_of_light(system, lights[j]).code);
+        if (distance > worst) worst = distance;
+    }
+    return worst;
+}
+
+/* The library keeps nothing between calls: the picture is a value of ours. A call is given it and answers with the
+ * picture for the next call, so after each one stands `picture = answer.picture`. */
+static void send_and_read(uint32_t system, const char *name) {
+    unsigned blocks = 0, clipped = 0;
+    int worst = 0;
+
+    ferghulta_picture picture = ferghulta_new();
+    ferghulta_picture_answer answer = ferghulta_open(picture, system, WIDTH, HEIGHT);
+    must_accept(answer.refusal);
+    picture = answer.picture;
+
+    while (picture.rows < picture.height) {
+        (picture.rows % 2 == 0 ? ramp : random_light)(picture.rows);
+        answer = ferghulta_row(picture, lights, LIGHTS, block, sizeof block);
+        must_accept(answer.refusal);
+        picture = answer.picture;
+
+        ferghulta_block_answer read = ferghulta_read_block(block, sizeof block, codes, LIGHTS);
+        must_accept(read.refusal);
+        blocks++;
+        clipped += read.clipped;
+        worst = worst_distance(system, worst);
+    }
+
+    must_accept(ferghulta_close(picture).refusal);
+    printf("%-16s %9u %11u %14d %7u\n", name, (unsigned)picture.rows, blocks, worst, clipped);
+}
+
+static void show(const char *call, uint32_t refusal) {
+    printf("%-32s %2u  %s\n", call, (unsigned)refusal, meaning(refusal));
+}
+
+/* A refused call changes nothing: the next call is given the same picture. */
+static void refusals(void) {
+    ferghulta_picture picture = ferghulta_new();
+    show("a row before open", ferghulta_row(picture, lights, LIGHTS, block, sizeof block).refusal);
+    show("open with width 7681", ferghulta_open(picture, FERGHULTA_BT709_8, 7681, 2).refusal);
+    picture = ferghulta_open(picture, FERGHULTA_BT709_8, WIDTH, 2).picture;
+    show("a row that is one light short", ferghulta_row(picture, lights, LIGHTS - 1, block, sizeof block).refusal);
+    show("a buffer that is one byte short", ferghulta_row(picture, lights, LIGHTS, block, sizeof block - 1).refusal);
+    picture = ferghulta_row(picture, lights, LIGHTS, block, sizeof block).picture;
+    show("close after one row of two", ferghulta_close(picture).refusal);
+    show("a block without its last byte", ferghulta_read_block(block, sizeof block - 1, codes, LIGHTS).refusal);
+    block[5] = 255; /* the first Y' word, after system, row number and count, becomes a timing code */
+    show("a block with a timing code", ferghulta_read_block(block, sizeof block, codes, LIGHTS).refusal);
+}
+
+int main(void) {
+    static const char *const names[] = {"BT.709 8 bits", "BT.709 10 bits", "BT.2020 10 bits", "BT.2020 12 bits"};
+    printf("pictures of %d x %d; distance in codes\n\n", WIDTH, HEIGHT);
+    printf("%-16s %9s %11s %14s %7s\n", "system", "rows sent", "blocks read", "worst distance", "clipped");
+    for (uint32_t system = FERGHULTA_BT709_8; system <= FERGHULTA_BT2020_12; system++)
+        send_and_read(system, names[system - 1]);
+    printf("\n%-32s %s\n", "refused call", "number and meaning");
+    refusals();
+    return EXIT_SUCCESS;
+}

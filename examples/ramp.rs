@@ -1,0 +1,95 @@
+//! examples/ramp.c in Rust: the same calls, the same lines. `make example-rust` runs it and compares the two.
+use ferghulta::{read_block, Picture, Refusal, System};
+
+const WIDTH: usize = 1920;
+const HEIGHT: usize = 32;
+const LIGHTS: usize = 3 * WIDTH;
+const BYTES: usize = 9 + 6 * WIDTH;
+
+/// R rises along the row, G falls, and B rises from row to row.
+fn ramp(row: usize) -> Vec<u16> {
+    let sample = |x| {
+        let r = (65535 * x / (WIDTH - 1)) as u16;
+        [r, 65535 - r, (65535 * row / (HEIGHT - 1)) as u16]
+    };
+    (0..WIDTH).flat_map(sample).collect()
+}
+
+/// Marsaglia's xorshift, as in ramp.c.
+fn random_light(row: usize) -> Vec<u16> {
+    let mut state = row as u32 + 1;
+    let next = || {
+        state ^= state << 13;
+        state ^= state >> 17;
+        state ^= state << 5;
+        (state >> 16) as u16
+    };
+    std::iter::repeat_with(next).take(LIGHTS).collect()
+}
+
+/// The most that a code read back is away from the code of its light.
+fn worst_distance(system: System, lights: &[u16], codes: &[u16]) -> u16 {
+    let distance = |(light, code): (&u16, &u16)| system.code_of_light(*light).abs_diff(*code);
+    lights.iter().zip(codes).map(distance).max().unwrap_or(0)
+}
+
+fn send_and_read(system: System, name: &str) -> Result<(), Refusal> {
+    let mut block = [0; BYTES];
+    let mut codes = [0; LIGHTS];
+    let (mut blocks, mut clipped, mut worst) = (0, 0, 0);
+
+    let mut picture = Picture::new();
+    picture.open(system, WIDTH as u32, HEIGHT as u32)?;
+    for row in 0..HEIGHT {
+        let lights = if row % 2 == 0 { ramp(row) } else { random_light(row) };
+        picture.row(&lights, &mut block)?;
+
+        clipped += read_block(&block, &mut codes)?.clipped;
+        blocks += 1;
+        worst = worst.max(worst_distance(system, &lights, &codes));
+    }
+    let rows = picture.rows();
+    picture.close()?;
+
+    println!("{name:<16} {rows:>9} {blocks:>11} {worst:>14} {clipped:>7}");
+    Ok(())
+}
+
+fn show<T>(call: &str, result: Result<T, Refusal>) {
+    match result {
+        Ok(_) => println!("{call:<32}  0  accepted"),
+        Err(refusal) => println!("{call:<32} {:>2}  {refusal}", refusal as u32),
+    }
+}
+
+/// A refused call changes nothing: the picture goes on as it was.
+fn refusals() -> Result<(), Refusal> {
+    let system = System::Bt709Bits8;
+    let lights = ramp(0);
+    let mut block = [0; BYTES];
+    let mut codes = [0; LIGHTS];
+
+    let mut picture = Picture::new();
+    show("a row before open", picture.row(&lights, &mut block));
+    show("open with width 7681", picture.open(system, 7681, 2));
+    picture.open(system, WIDTH as u32, 2)?;
+    show("a row that is one light short", picture.row(&lights[1..], &mut block));
+    show("a buffer that is one byte short", picture.row(&lights, &mut block[1..]));
+    picture.row(&lights, &mut block)?;
+    show("close after one row of two", picture.close());
+    show("a block without its last byte", read_block(&block[..BYTES - 1], &mut codes));
+    block[5] = 255; // the first Y' word, after system, row number and count, becomes a timing code
+    show("a block with a timing code", read_block(&block, &mut codes));
+    Ok(())
+}
+
+fn main() -> Result<(), Refusal> {
+    let names = ["BT.709 8 bits", "BT.709 10 bits", "BT.2020 10 bits", "BT.2020 12 bits"];
+    println!("pictures of {WIDTH} x {HEIGHT}; distance in codes\n");
+    println!("{:<16} {:>9} {:>11} {:>14} {:>7}", "system", "rows sent", "blocks read", "worst distance", "clipped");
+    for (system, name) in System::ALL.into_iter().zip(names) {
+        send_and_read(system, name)?;
+    }
+    println!("\n{:<32} number and meaning", "refused call");
+    refusals()
+}

@@ -6,7 +6,7 @@ use mathlib.Core.Bool.{true, false}
 use mathlib.Core.List.{List, [], _∷_, _++_}
 use lib.Dec.{leb}
 use lib.IntN.{pos}
-use lib.ListN.{length, take, getD}
+use lib.ListN.{length, take, drop, getD}
 use contract.Lifetimes.{Lfts}
 use denote.Ref.{RefT, now}
 use Rattle.exact.specs.Outcome as outcome
@@ -89,19 +89,22 @@ pub record ReadsBack (bytes : List ℕ) (e : Entry) : Type 0 where
   pub reads : (κs : Lfts 2) (bytes₀ codes₀ bytes₁ codes₁ : RefT (List ℕ)) (r : BlockRead) → now bytes₀ ≡ bytes → 3 * e .width ≤ length (now codes₀)
       → read-call.Post κs (bytes₀, (codes₀, tt)) r (bytes₁, (codes₁, tt)) → Read e system (toldHeader r) (now codes₁)
 
--- the buffers that accepted rows left, and as many entries: the first 9 + 6·width bytes of each are its entry's block
-pub data Blocks : List (List ℕ) → List Entry → Type 0 where
+-- the buffers of accepted rows, and as many entries
+pub data Blocks : List Lent → List Entry → Type 0 where
   none : Blocks [] []
-  one : {b : List ℕ} {e : Entry} {bs : List (List ℕ)} {es : List Entry} → ReadsBack (take (9 + 6 * e .width) b) e → Blocks bs es → Blocks (b ∷ bs) (e ∷ es)
+  -- the first 9 + 6·width bytes that a call left are its entry's block, and later bytes stay
+  one : {l : Lent} {e : Entry} {ls : List Lent} {es : List Entry}
+      → ReadsBack (take (9 + 6 * e .width) (l .after)) e → drop (9 + 6 * e .width) (l .after) ≡ drop (9 + 6 * e .width) (l .before)
+      → Blocks ls es → Blocks (l ∷ ls) (e ∷ es)
 
--- the buffers of the accepted rows, as their calls left them
-abbrev pub keptBy : Heard → List ℕ → List (List ℕ)
-keptBy accepted b = b ∷ []
-keptBy (refused n) b = []
+-- the buffers of the accepted rows
+abbrev pub keptBy : Heard → Lent → List Lent
+keptBy accepted l = l ∷ []
+keptBy (refused n) l = []
 
-unfoldable pub kept : List Lent → List (List ℕ)
+unfoldable pub kept : List Lent → List Lent
 kept [] = []
-kept (l ∷ ls) = keptBy (l .heard) (l .after) ++ kept ls
+kept (l ∷ ls) = keptBy (l .heard) l ++ kept ls
 
 -- the refused rows left their buffers as they were
 unfoldable pub Unchanged : List Lent → Type 0

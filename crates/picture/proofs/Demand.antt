@@ -7,7 +7,7 @@ use mathlib.Core.List.{List, [], _∷_, _++_}
 use native.Mathlib.Omega.{arith}
 use lib.Dec.{ltb, leb, eqb}
 use lib.ListN.{length, drop}
-use lib.Seq.{take-at}
+use lib.Seq.{take-at, drop-at}
 use borrow.Author.Tests.{ltb-true}
 use denote.Ref.{now}
 use Rattle.exact.specs.Outcome as outcome
@@ -39,8 +39,12 @@ row-leaves Closed lights out n e = refl
 abbrev entered : State → Call → List Entry
 entered st c = choose (accepts st c) (enters st c) []
 
+-- the buffer of a row, and what is heard of it
+abbrev lent : Phase → List ℕ → List ℕ → Lent
+lent f lights out = record { heard = heardOf (rowFrom f lights (length out)); before = out; after = bufferFrom f lights out }
+
 row-keeps : (f : Phase) (lights out : List ℕ) → Proper f → Lights lights
-    → Blocks (keptBy (heardOf (rowFrom f lights (length out))) (bufferFrom f lights out)) (entered (stateOf f) (rows lights (length out)))
+    → Blocks (keptBy (lent f lights out .heard) (lent f lights out)) (entered (stateOf f) (rows lights (length out)))
 unfolding rowOpen
 row-keeps Fresh lights out g l = none
 row-keeps (Open o) lights out g l =
@@ -52,7 +56,9 @@ row-keeps (Open o) lights out g l =
     let numbered : o .rows ≤ 4319 = omega (arith, g .height-to) in
     let long = size (o .system) (o .rows) (o .width) lights (g .width-from) (g .width-to) numbered in
     let back = reads-back (o .system) (o .rows) (o .width) lights (g .width-from) (g .width-to) numbered l in
-    simp (a, b, c) (one (subst (λ (s : List ℕ). ReadsBack s (record { system = number (o .system); width = o .width; row = o .rows; lights = lights })) (sym (take-at (rowBlock (o .system) (o .rows) (o .width) lights) (drop (blockLength (o .width)) out) (9 + 6 * o .width) long)) back) none))
+    let entry : Entry = record { system = number (o .system); width = o .width; row = o .rows; lights = lights } in
+    let made : List ℕ = rowBlock (o .system) (o .rows) (o .width) lights in
+    simp (a, b, c) (one {e = entry} (subst (λ (s : List ℕ). ReadsBack s entry) (sym (take-at made _ _ long)) back) (drop-at made _ _ long) none))
     (λ c. simp (a, b, c) none))
     (λ b. simp (a, b) none))
     (λ a. simp a none)
@@ -60,9 +66,9 @@ row-keeps Closed lights out g l = none
 
 -- ---- a call, then those that follow it
 
-blocks-append : {bs ds : List (List ℕ)} {es fs : List Entry} → Blocks bs es → Blocks ds fs → Blocks (bs ++ ds) (es ++ fs)
+blocks-append : {ls ms : List Lent} {es fs : List Entry} → Blocks ls es → Blocks ms fs → Blocks (ls ++ ms) (es ++ fs)
 blocks-append none y = y
-blocks-append (one r x) y = one r (blocks-append x y)
+blocks-append (one r s x) y = one r s (blocks-append x y)
 
 pub record After (p : Picture) (cs : List Call) (hs : List Heard) (ls : List Lent) (q : Picture) : Type 0 where
   pub demanded : Demanded (stateOf (p .phase)) cs hs ls q
@@ -80,7 +86,7 @@ call-then {o = o} i e k = record {
 }
 
 row-then : {f : Phase} {c : Call} {o : Outcome Picture} {l : Lent} {cs : List Call} {hs : List Heard} {ls : List Lent} {q : Picture} → InStep f c o
-    → ((n : ℕ) → l .heard ≡ refused n → l .after ≡ l .before) → Blocks (keptBy (l .heard) (l .after)) (entered (stateOf f) c)
+    → ((n : ℕ) → l .heard ≡ refused n → l .after ≡ l .before) → Blocks (keptBy (l .heard) l) (entered (stateOf f) c)
     → Demanded (stateOf (leads (at f) o .phase)) cs hs ls q → Demanded (stateOf f) (c ∷ cs) (heardOf o ∷ hs) (l ∷ ls) q
 unfolding heardFrom entriesFrom stateFrom kept Unchanged
 row-then {o = o} i u b k = record {
@@ -106,7 +112,7 @@ run {p} g (after-row κs lights out lights′ out′ r p′ lit post rest) =
     let c : Call = rows (now lights) (length (now out)) in
     let i : InStep (p .phase) c (toldPicture r) = rw (post .0) (row-step (p .phase) (now lights) (length (now out))) in
     let u : (n : ℕ) → heardOf (toldPicture r) ≡ refused n → now out′ ≡ now out = rw (post .0, post .1) (row-leaves (p .phase) (now lights) (now out)) in
-    let b : Blocks (keptBy (heardOf (toldPicture r)) (now out′)) (entered (stateOf (p .phase)) c) = rw (post .0, post .1) (row-keeps (p .phase) (now lights) (now out) g lit) in
+    let b : Blocks (keptBy (heardOf (toldPicture r)) (record { heard = heardOf (toldPicture r); before = now out; after = now out′ })) (entered (stateOf (p .phase)) c) = rw (post .0, post .1) (row-keeps (p .phase) (now lights) (now out) g lit) in
     let k = run (i .stays g) rest in
     record { demanded = row-then i u b (k .demanded); proper = k .proper }
 run {p} g (after-close r p′ post rest) =

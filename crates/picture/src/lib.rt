@@ -151,11 +151,13 @@ fn begin_in(y: System, width: u32, height: u32) -> Change
     if !is_size(height, MOST_ROWS) {
         return Change::Refused(Refusal::Height);
     }
+    let samples = width as u16;
+    let most = height as u16;
     Change::To(Picture {
         phase: Phase::Open(Opened {
             system: y,
-            width: width as u16,
-            height: height as u16,
+            width: samples,
+            height: most,
             rows: 0,
         }),
     })
@@ -164,23 +166,28 @@ fn begin_in(y: System, width: u32, height: u32) -> Change
 fn next_row(o: Opened, lights: &[u16], out: &mut [u8]) -> Change
     ensures { λ r. ⌜ (toldPicture r ≡ rowOpen o (now (lights .entry)) (length (now (out .entry)))) × (now (out .exit) ≡ bufferBy (rowOpen o (now (lights .entry)) (length (now (out .entry)))) o (now (lights .entry)) (now (out .entry))) ⌝ }
 {
-    if o.height <= o.rows {
+    let rows = o.rows;
+    let height = o.height;
+    let needed = 3 * o.width as usize;
+    let size = 9 + 6 * o.width as usize;
+    if height <= rows {
         return Change::Refused(Refusal::AllRows);
     }
-    if lights.len() != 3 * o.width as usize {
+    if lights.len() != needed {
         return Change::Refused(Refusal::Lights);
     }
-    if out.len() < 9 + 6 * o.width as usize {
+    if out.len() < size {
         return Change::Refused(Refusal::Output);
     }
     let system = o.system;
-    write_row(system, o.rows, o.width, lights, out);
+    write_row(system, rows, o.width, lights, out);
+    let accepted = rows + 1;
     Change::To(Picture {
         phase: Phase::Open(Opened {
             system,
             width: o.width,
             height: o.height,
-            rows: o.rows + 1,
+            rows: accepted,
         }),
     })
 }

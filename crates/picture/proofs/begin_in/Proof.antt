@@ -19,14 +19,14 @@ returns-2 c =
     let width = c .before .before in
     rw (sym (width .before .is-size .ensures) ∙ not-false _ (width .if1 .left), sym (c .before .is-size2 .ensures) ∙ not-true _ (c .if2 .taken))
 
-cast-t8 : tie.Need-cast-t8
-cast-t8 c =
+cast-samples : tie.Need-cast-samples
+cast-samples c =
     let width = c .before .before in
     let w = in-range (width .before .before .args .width) 1 7680 (sym (width .before .is-size .ensures) ∙ not-false _ (width .if1 .left)) in
     search needs
 
-cast-t9 : tie.Need-cast-t9
-cast-t9 c =
+cast-most : tie.Need-cast-most
+cast-most c =
     let h = in-range (c .before .before .before .before .args .height) 1 4320 (sym (c .before .is-size2 .ensures) ∙ not-false _ (c .if2 .left)) in
     search needs
 
@@ -38,4 +38,4 @@ returns-3 c =
 pub begin-in-spec : {M : Type 1} → statement M
 begin-in-spec =
     tie.close
-    (tie.spec is-size-requires returns is-size-requires-2 returns-2 cast-t8 cast-t9 returns-3)
+    (tie.spec is-size-requires returns is-size-requires-2 returns-2 cast-samples cast-most returns-3)

@@ -1,0 +1,122 @@
+// A call of the lists: what it is given, and what it has to answer.
+ghost use Prim.Native.Nat.{_+_, _≤_};
+ghost use lib.ListN.{length};
+use block::BlockRead;
+use block::Header;
+use picture::Change;
+use picture::Picture;
+use records::u16_at;
+use records::u32_at;
+use systems::Refusal;
+
+// A list begins with a fresh picture.
+pub const NEW: u16 = 0;
+
+pub const OPEN: u16 = 1;
+
+pub const ROW: u16 = 2;
+
+pub const CLOSE: u16 = 3;
+
+// What stands before a call's block. An open is given the system, width and height, a row the place of its first light, how many
+// lights, and the length of its buffer.
+pub struct Call {
+    kind: u16,
+    refusal: u32,
+    pub rows: u16,
+    system: u32,
+    pub samples: u16,
+    clipped: u32,
+    first: u32,
+    second: u32,
+    third: u32,
+}
+
+pub fn call_at(calls: &[u8], at: usize) -> Call
+    requires { ⌜ at + 26 ≤ length (now calls) ⌝ }
+{
+    Call {
+        kind: u16_at(calls, at),
+        refusal: u16_at(calls, at + 2) as u32,
+        rows: u16_at(calls, at + 4),
+        system: u16_at(calls, at + 6) as u32,
+        samples: u16_at(calls, at + 8),
+        clipped: u32_at(calls, at + 10),
+        first: u32_at(calls, at + 14),
+        second: u32_at(calls, at + 18),
+        third: u32_at(calls, at + 22),
+    }
+}
+
+impl Call {
+    pub fn is_of(self, kind: u16, refusal: u32) -> bool {
+        self.kind == kind && self.refusal == refusal
+    }
+
+    // The bytes of the block that is due, 0 where none is.
+    pub fn block_length(self) -> usize
+        ensures { λ r. ⌜ r ≤ 393219 ⌝ }
+    {
+        if self.samples == 0 {
+            0
+        } else {
+            9 + 6 * (self.samples as usize)
+        }
+    }
+
+    // The length of the buffer that the call is lent.
+    pub fn room(self) -> usize {
+        if self.kind == ROW {
+            self.third as usize
+        } else {
+            0
+        }
+    }
+
+    // Makes the call.
+    pub fn answer(self, picture: Picture, lights: &[u16], lent: &mut [u8]) -> Change {
+        let kind = self.kind;
+        match kind {
+            OPEN => picture.open(self.first, self.second, self.third),
+            ROW => self.row(picture, lights, lent),
+            CLOSE => picture.close(),
+            _ => Change::To(Picture::new()),
+        }
+    }
+
+    // A row whose lights or buffer are not there is answered as no picture answers.
+    fn row(self, picture: Picture, lights: &[u16], lent: &mut [u8]) -> Change {
+        let start = self.first as usize;
+        let end = start + self.second as usize;
+        let room = self.room();
+        if end <= lights.len() && room <= lent.len() {
+            picture.row(&lights[start..end], &mut lent[..room])
+        } else {
+            Change::Refused(Refusal::Signal)
+        }
+    }
+
+    pub fn has(self, answer: Change) -> bool {
+        match answer {
+            Change::To(_) => self.refusal == 0,
+            Change::Refused(refusal) => refusal.number() == self.refusal,
+        }
+    }
+
+    // Whether reading answers with the row that this call was.
+    pub fn is_read(self, answer: BlockRead) -> bool {
+        match answer {
+            BlockRead::Row(header) => self.is(header),
+            BlockRead::Refused(_) => false,
+        }
+    }
+
+    // The row number is that of the last row accepted.
+    fn is(self, header: Header) -> bool {
+        let system = header.system;
+        system.number() == self.system
+            && header.row as u32 + 1 == self.rows as u32
+            && header.samples == self.samples
+            && header.clipped == self.clipped
+    }
+}

@@ -1,0 +1,19 @@
+// The lights of the file 'lights', of which each row is given a part.
+ghost use Prim.Native.Nat.{_≤_};
+ghost use lib.ListN.{length};
+use records::u16_at;
+
+// Puts the lights, each 2 bytes, to the front of a slice, and answers how many there are.
+pub fn decode(bytes: &[u8], lights: &mut [u16]) -> usize
+    ensures { λ r. ⌜ r ≤ length (now (lights .exit)) ⌝ }
+{
+    let mut i = 0;
+    while i < lights.len() {
+        if i >= bytes.len() / 2 {
+            return i;
+        }
+        lights[i] = u16_at(bytes, 2 * i);
+        i += 1;
+    }
+    i
+}

@@ -1,0 +1,50 @@
+// Reading the block of an accepted row.
+use crate::call::Call;
+use records::u16_at;
+
+// Reads the block at the front of the buffer, where one is due, into a slice with no place to spare.
+pub fn is_met(call: Call, lent: &[u8], due: &[u8]) -> bool {
+    let length = call.block_length();
+    if length == 0 {
+        return true;
+    }
+    if length > lent.len() {
+        return false;
+    }
+    let mut codes = [0; 23040];
+    let places = 3 * (call.samples as usize);
+    if places > codes.len() {
+        return false;
+    }
+    reads(call, &lent[..length], &mut codes[..places], due)
+}
+
+// Whether the block reads as this call's row, with the codes that are due.
+fn reads(call: Call, block: &[u8], codes: &mut [u16], due: &[u8]) -> bool {
+    let answer = block::read_block(block, codes);
+    call.is_read(answer) && are_due(codes, due)
+}
+
+fn are_due(codes: &[u16], due: &[u8]) -> bool {
+    let mut i = 0;
+    while i < codes.len() {
+        if !is_due(codes[i], due, i) {
+            return false;
+        }
+        i += 1;
+    }
+    true
+}
+
+// Whether a code is the one that is due at its place, and within one of its light's. A place has the light's code, then that one.
+fn is_due(code: u16, due: &[u8], place: usize) -> bool {
+    if place < due.len() / 4 {
+        code == u16_at(due, 4 * place + 2) && is_near(code, u16_at(due, 4 * place))
+    } else {
+        false
+    }
+}
+
+fn is_near(code: u16, other: u16) -> bool {
+    code as u32 <= other as u32 + 1 && other as u32 <= code as u32 + 1
+}

@@ -80,8 +80,7 @@ fn begin_alike(lent: &[u8], due: &[u8], room: usize) -> bool {
 }
 
 fn rows_of(picture: Picture) -> u16 {
-    let phase = picture.phase;
-    match phase {
+    match picture.phase() {
         Phase::Fresh => 0,
         Phase::Open(o) => o.rows,
         Phase::Closed => 0,

@@ -14,8 +14,8 @@ use Rattle.exact.specs.Outcome.{accepted}
 use Rattle.exact.proofs.Order.{below-or-not}
 use Rattle.systems.specs.declared.Codes.{Codes}
 use Rattle.systems.specs.declared.System.{System}
-use Rattle.systems.specs.declared.System.the-variants.{Bt709Bits8, Bt709Bits10, Bt2020Bits10, Bt2020Bits12}
-use Rattle.systems.specs.Systems.{number, named, matrix, scale, nominal, allWithin}
+use Rattle.systems.specs.Systems.{number, matrix, scale, nominal, allWithin}
+use Rattle.systems.proofs.Scales.{named-number}
 use Rattle.systems.proofs.Ranges.{Nominal}
 use Rattle.curve.specs.Curve.{code}
 use Rattle.curve.proofs.Lights.{code-low, code-high}
@@ -83,12 +83,6 @@ module _ (row : ℕ → Clipped) (P : ℕ → ℕ → Type 0) where
       go before (inr l) = last (below-or-not j (3 * n + 1)) (below-or-not j (3 * n + 2)) l
 
 -- ---- tests that nominal codes and words pass
-
-named-number : (y : System) → named (number y) ≡ accepted y
-named-number Bt709Bits8 = refl
-named-number Bt709Bits10 = refl
-named-number Bt2020Bits10 = refl
-named-number Bt2020Bits12 = refl
 
 codes-pass : (y : System) (c : Codes) → NominalCodes (scale y) c → allWithin (nominal y) c ≡ true
 codes-pass y c n =

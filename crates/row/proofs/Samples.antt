@@ -4,13 +4,11 @@ use mathlib.Core.Path.{_≡_, ap, _∙_}
 use mathlib.Core.List.{List}
 use Prim.Native.Nat.{ℕ, _+_, _*_, _≤_, _<_}
 use native.Mathlib.Numerals.{add-one}
-use native.Mathlib.Omega.{arith}
 use lib.ListN.{set}
 use Rattle.systems.specs.declared.Codes.{Codes}
 use Rattle.systems.specs.declared.Matrix.{Matrix}
 use Rattle.systems.specs.declared.System.{System}
-use Rattle.systems.specs.declared.System.the-variants.{Bt709Bits8, Bt709Bits10, Bt2020Bits10, Bt2020Bits12}
-use Rattle.systems.specs.Systems.{number, matrix, scale}
+use Rattle.systems.specs.Systems.{matrix, scale}
 use Rattle.systems.proofs.Scales.{scale-range}
 use Rattle.curve.proofs.Lights.{code-low, code-high}
 use Rattle.matrix.specs.declared.Words.{Words}
@@ -18,13 +16,6 @@ use Rattle.matrix.specs.Triples.{wordsAt}
 use Rattle.matrix.specs.Rows.{NominalCodes}
 use Rattle.row.specs.Row.{sampleCodes, sampleWords}
 use Rattle.row.specs.Stores.{put, headed, worded, stored}
-
--- a system's number is a byte
-pub number-small : (y : System) → number y < 256
-number-small Bt709Bits8 = omega arith
-number-small Bt709Bits10 = omega arith
-number-small Bt2020Bits10 = omega arith
-number-small Bt2020Bits12 = omega arith
 
 -- the codes of a sample's lights are nominal
 pub sample-nominal : (y : System) (lights : List ℕ) (i s : ℕ) (c : Codes) → s ≡ scale y → c ≡ sampleCodes y lights i

@@ -2,7 +2,8 @@ use mathlib.Core.Path.{ap, _∙_}
 use Prim.Native.Nat.{ℕ}
 use native.Mathlib.Omega.{arith}
 use lib.ListN.{set}
-use Rattle.row.proofs.Samples.{number-small, head-put}
+use Rattle.systems.proofs.Scales.{number-small}
+use Rattle.row.proofs.Samples.{head-put}
 use borrow.Author.Needs.{needs}
 use Rattle.row.proofs.put_head.Statement.{statement}
 use Rattle.row.proofs.put_head.Tie as tie

@@ -1,0 +1,241 @@
+//! The answers of include/ferghulta.h, and the exact outcomes in that form: a refusal's other numbers are 0.
+use crate::exact::{system, Opened, Outcome, Picture as State, Row, MOST_ROWS, MOST_SAMPLES};
+
+#[repr(C)]
+#[derive(Debug, PartialEq)]
+pub struct CodeAnswer {
+    pub refusal: u32,
+    code: u16,
+}
+
+#[repr(C)]
+#[derive(Debug, PartialEq)]
+pub struct SpanAnswer {
+    pub refusal: u32,
+    span: [u16; 2],
+}
+
+#[repr(C)]
+#[derive(Clone, Copy)]
+pub struct Signals {
+    r: f32,
+    g: f32,
+    b: f32,
+}
+
+#[repr(C)]
+pub struct SignalsAnswer {
+    pub refusal: u32,
+    signals: Signals,
+}
+
+/// Three codes or three words.
+#[repr(C)]
+#[derive(Clone, Copy)]
+pub struct Triple(u16, u16, u16);
+
+#[repr(C)]
+#[derive(Debug, PartialEq)]
+pub struct TripleAnswer {
+    pub refusal: u32,
+    triple: [u16; 3],
+}
+
+#[repr(C)]
+#[derive(Debug, PartialEq)]
+pub struct DecodedAnswer {
+    pub refusal: u32,
+    clipped: u32,
+    codes: [u16; 3],
+}
+
+#[repr(C)]
+#[derive(Debug, PartialEq)]
+pub struct BlockAnswer {
+    pub refusal: u32,
+    pub system: u32,
+    pub clipped: u32,
+    pub row: u16,
+    pub samples: u16,
+}
+
+#[repr(C)]
+#[derive(Clone, Copy, Debug, PartialEq)]
+pub struct Picture {
+    pub phase: u8,
+    pub system: u8,
+    pub width: u16,
+    pub height: u16,
+    pub rows: u16,
+}
+
+#[repr(C)]
+#[derive(Clone, Copy, Debug, PartialEq)]
+pub struct PictureAnswer {
+    pub refusal: u32,
+    pub picture: Picture,
+}
+
+/// The refusal's number, or 0, and the values, or zeros.
+fn parts<T: Default>(outcome: Outcome<T>) -> (u32, T) {
+    match outcome {
+        Ok(values) => (0, values),
+        Err(refusal) => (refusal, T::default()),
+    }
+}
+
+impl From<Outcome<u16>> for CodeAnswer {
+    fn from(outcome: Outcome<u16>) -> CodeAnswer {
+        let (refusal, code) = parts(outcome);
+        CodeAnswer { refusal, code }
+    }
+}
+
+impl From<Outcome<(u16, u16)>> for SpanAnswer {
+    fn from(outcome: Outcome<(u16, u16)>) -> SpanAnswer {
+        let (refusal, (least, greatest)) = parts(outcome);
+        let span = [least, greatest];
+        SpanAnswer { refusal, span }
+    }
+}
+
+impl From<Outcome<[u16; 3]>> for TripleAnswer {
+    fn from(outcome: Outcome<[u16; 3]>) -> TripleAnswer {
+        let (refusal, triple) = parts(outcome);
+        TripleAnswer { refusal, triple }
+    }
+}
+
+impl From<Outcome<([u16; 3], u32)>> for DecodedAnswer {
+    fn from(outcome: Outcome<([u16; 3], u32)>) -> DecodedAnswer {
+        let (refusal, (codes, clipped)) = parts(outcome);
+        DecodedAnswer {
+            refusal,
+            clipped,
+            codes,
+        }
+    }
+}
+
+impl From<[u16; 3]> for Triple {
+    fn from([first, second, third]: [u16; 3]) -> Triple {
+        Triple(first, second, third)
+    }
+}
+
+impl From<Triple> for [u16; 3] {
+    fn from(Triple(first, second, third): Triple) -> [u16; 3] {
+        [first, second, third]
+    }
+}
+
+impl From<[u32; 3]> for Signals {
+    fn from(bits: [u32; 3]) -> Signals {
+        let [r, g, b] = bits.map(f32::from_bits);
+        Signals { r, g, b }
+    }
+}
+
+impl From<Signals> for [u32; 3] {
+    fn from(Signals { r, g, b }: Signals) -> [u32; 3] {
+        [r, g, b].map(f32::to_bits)
+    }
+}
+
+impl From<Outcome<[u32; 3]>> for SignalsAnswer {
+    fn from(outcome: Outcome<[u32; 3]>) -> SignalsAnswer {
+        let (refusal, bits) = parts(outcome);
+        let signals = bits.into();
+        SignalsAnswer { refusal, signals }
+    }
+}
+
+impl SignalsAnswer {
+    /// The refusal and the bits, by which a zero's sign shows.
+    pub fn bits(&self) -> (u32, [u32; 3]) {
+        (self.refusal, self.signals.into())
+    }
+}
+
+impl From<&Outcome<Row>> for BlockAnswer {
+    fn from(outcome: &Outcome<Row>) -> BlockAnswer {
+        let (refusal, (system, clipped, row, samples)) = match outcome {
+            Ok(row) => (0, (row.system, row.clipped, row.number, row.samples)),
+            Err(refusal) => (*refusal, (0, 0, 0, 0)),
+        };
+        BlockAnswer {
+            refusal,
+            system,
+            clipped,
+            row,
+            samples,
+        }
+    }
+}
+
+impl Picture {
+    /// A picture without the numbers of an open one.
+    pub fn unopened(phase: u8) -> Picture {
+        Picture {
+            phase,
+            system: 0,
+            width: 0,
+            height: 0,
+            rows: 0,
+        }
+    }
+
+    /// The state that the calls take this picture for: a value that no call gives is a fresh picture.
+    pub fn taken(self) -> State {
+        match self.phase {
+            1 => self.taken_open(),
+            2 => State::Closed,
+            _ => State::Fresh,
+        }
+    }
+
+    fn taken_open(self) -> State {
+        let number = u32::from(self.system);
+        let [width, height, rows] = [self.width, self.height, self.rows].map(usize::from);
+        let proper = system(number).is_ok()
+            && (1..=MOST_SAMPLES).contains(&width)
+            && (1..=MOST_ROWS).contains(&height)
+            && rows <= height;
+        if !proper {
+            return State::Fresh;
+        }
+        State::Open(Opened {
+            system: number,
+            width,
+            height,
+            rows,
+        })
+    }
+}
+
+impl From<State> for Picture {
+    fn from(state: State) -> Picture {
+        match state {
+            State::Fresh => Picture::unopened(0),
+            State::Closed => Picture::unopened(2),
+            State::Open(opened) => Picture {
+                phase: 1,
+                system: opened.system as u8,
+                width: opened.width as u16,
+                height: opened.height as u16,
+                rows: opened.rows as u16,
+            },
+        }
+    }
+}
+
+impl PictureAnswer {
+    /// A refused picture comes back as it was given.
+    pub fn of(given: Picture, outcome: Outcome<State>) -> PictureAnswer {
+        let (refusal, picture) = match outcome {
+            Ok(state) => (0, state.into()),
+            Err(refusal) => (refusal, given),
+        };
+        PictureAnswer { refusal, picture }
+    }
+}

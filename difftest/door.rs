@@ -1,0 +1,47 @@
+//! The calls of include/ferghulta.h.
+use crate::answers::*;
+
+#[link(name = "ferghulta", kind = "static")]
+extern "C" {
+    pub fn ferghulta_code_of_light(system: u32, light: u16) -> CodeAnswer;
+    pub fn ferghulta_span_of_code(system: u32, code: u16) -> SpanAnswer;
+    pub fn ferghulta_codes_of_signals(system: u32, signals: Signals) -> TripleAnswer;
+    pub fn ferghulta_signals_of_codes(system: u32, codes: Triple) -> SignalsAnswer;
+    pub fn ferghulta_words_of_codes(system: u32, codes: Triple) -> TripleAnswer;
+    pub fn ferghulta_codes_of_words(system: u32, words: Triple) -> DecodedAnswer;
+    pub fn ferghulta_new() -> Picture;
+    pub fn ferghulta_open(p: Picture, system: u32, width: u32, height: u32) -> PictureAnswer;
+    pub fn ferghulta_close(picture: Picture) -> PictureAnswer;
+    pub fn ferghulta_row(
+        picture: Picture,
+        lights: *const u16,
+        count: usize,
+        out: *mut u8,
+        room: usize,
+    ) -> PictureAnswer;
+    pub fn ferghulta_read_block(
+        bytes: *const u8,
+        length: usize,
+        codes: *mut u16,
+        places: usize,
+    ) -> BlockAnswer;
+}
+
+/// The same calls with what the x86-64 convention leaves open, filled: the upper half of a register with a u32, the fourth word of
+/// one with a triple, the upper lane of one with the third float. No answer may depend on it.
+pub mod filled {
+    use crate::answers::*;
+
+    #[repr(C)]
+    #[derive(Clone, Copy)]
+    pub struct FourSignals(pub Signals, pub f32);
+
+    #[allow(clashing_extern_declarations)]
+    extern "C" {
+        pub fn ferghulta_codes_of_signals(system: u64, signals: FourSignals) -> TripleAnswer;
+        pub fn ferghulta_signals_of_codes(system: u64, codes: u64) -> SignalsAnswer;
+        pub fn ferghulta_words_of_codes(system: u64, codes: u64) -> TripleAnswer;
+        pub fn ferghulta_codes_of_words(system: u64, words: u64) -> DecodedAnswer;
+        pub fn ferghulta_open(p: Picture, system: u64, width: u64, height: u64) -> PictureAnswer;
+    }
+}

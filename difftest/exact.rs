@@ -1,0 +1,501 @@
+//! Document 01 in exact arithmetic: whole numbers only, written from the document alone, nothing shared with the library.
+//! A call answers its values, or `Err` with the refusal's number.
+use crate::natural::Natural;
+use std::sync::OnceLock;
+
+pub type Outcome<T> = Result<T, u32>;
+
+/// 'What the caller hears'.
+pub mod refusal {
+    pub const SYSTEM: u32 = 1;
+    pub const WIDTH: u32 = 2;
+    pub const HEIGHT: u32 = 3;
+    pub const LIGHTS: u32 = 4;
+    pub const OUTPUT: u32 = 5;
+    pub const CODE: u32 = 6;
+    pub const SIGNAL: u32 = 7;
+    pub const BLOCK_END: u32 = 8;
+    pub const COUNT: u32 = 9;
+    pub const ROW_NUMBER: u32 = 10;
+    pub const BYTES_AFTER: u32 = 11;
+    pub const ALREADY_OPEN: u32 = 21;
+    pub const NOT_OPEN: u32 = 22;
+    pub const ALL_ROWS: u32 = 23;
+    pub const ROWS_MISSING: u32 = 24;
+}
+
+fn require(condition: bool, refusal: u32) -> Outcome<()> {
+    if condition {
+        Ok(())
+    } else {
+        Err(refusal)
+    }
+}
+
+// ---- 'Four systems'
+
+/// α and β stand in ten-thousandths, in which they are whole for all systems.
+pub struct System {
+    pub number: u32,
+    pub scale: i128,
+    alpha: i128,
+    beta: i128,
+    weights: Weights,
+}
+
+#[derive(Clone, Copy)]
+struct Weights {
+    kr: i128,
+    kg: i128,
+    kb: i128,
+}
+
+const BT709: Weights = Weights {
+    kr: 2126,
+    kg: 7152,
+    kb: 722,
+};
+
+const BT2020: Weights = Weights {
+    kr: 2627,
+    kg: 6780,
+    kb: 593,
+};
+
+#[rustfmt::skip]
+pub static SYSTEMS: [System; 4] = [
+    System { number: 1, scale: 1, alpha: 10990, beta: 180, weights: BT709 },
+    System { number: 2, scale: 4, alpha: 10990, beta: 180, weights: BT709 },
+    System { number: 3, scale: 4, alpha: 10990, beta: 180, weights: BT2020 },
+    System { number: 4, scale: 16, alpha: 10993, beta: 181, weights: BT2020 },
+];
+
+pub fn system(number: u32) -> Outcome<&'static System> {
+    let known = SYSTEMS.iter().find(|system| system.number == number);
+    known.ok_or(refusal::SYSTEM)
+}
+
+impl System {
+    pub fn lowest(&self) -> u16 {
+        (16 * self.scale) as u16
+    }
+
+    /// The highest nominal R', G', B' or Y'.
+    pub fn highest(&self) -> u16 {
+        (235 * self.scale) as u16
+    }
+
+    /// The highest nominal Cb or Cr.
+    pub fn highest_difference(&self) -> u16 {
+        (240 * self.scale) as u16
+    }
+
+    pub fn is_nominal(&self, code: u16) -> bool {
+        (self.lowest()..=self.highest()).contains(&code)
+    }
+
+    fn is_nominal_difference(&self, word: u16) -> bool {
+        (self.lowest()..=self.highest_difference()).contains(&word)
+    }
+
+    pub fn is_timing(&self, word: u16) -> bool {
+        let word = i128::from(word);
+        word < self.scale || word >= 255 * self.scale
+    }
+
+    fn middle(&self) -> i128 {
+        128 * self.scale
+    }
+}
+
+/// A value inside INT; the denominator is above 0.
+#[derive(Clone, Copy)]
+pub struct Ratio {
+    pub numerator: i128,
+    pub denominator: i128,
+}
+
+fn ratio(numerator: i128, denominator: i128) -> Ratio {
+    Ratio {
+        numerator,
+        denominator,
+    }
+}
+
+/// The greatest whole number not above v + 1/2.
+fn int(v: Ratio) -> i128 {
+    (2 * v.numerator + v.denominator).div_euclid(2 * v.denominator)
+}
+
+// ---- 'Light to code'
+
+const FULL_LIGHT: i128 = 65535;
+
+/// The code of every light, and the least and the greatest light of every nominal code.
+struct Curve {
+    codes: Vec<u16>,
+    spans: Vec<(u16, u16)>,
+}
+
+fn curve(system: &System) -> &'static Curve {
+    static CURVES: OnceLock<Vec<Curve>> = OnceLock::new();
+    let curves = CURVES.get_or_init(|| SYSTEMS.iter().map(Curve::of).collect());
+    &curves[system.number as usize - 1]
+}
+
+impl Curve {
+    fn of(system: &System) -> Curve {
+        let nominal = system.lowest() + 1..=system.highest();
+        let thresholds: Vec<u32> = nominal.map(|code| threshold(system, code)).collect();
+        let codes: Vec<u16> = (0..=u16::MAX)
+            .map(|light| code_by_rule(system, &thresholds, light))
+            .collect();
+        let spans = spans(system, &codes);
+        Curve { codes, spans }
+    }
+}
+
+/// The least light with L^9 ≥ ((v + α − 1)/α)^20, where v = (2D − 1 − 32s)/(438s).
+fn threshold(system: &System, code: u16) -> u32 {
+    let s = system.scale;
+    let over = (2 * i128::from(code) - 1 - 32 * s) * 10000 + (system.alpha - 10000) * 438 * s;
+    let under = 438 * s * system.alpha;
+    let right = Natural::one()
+        .times_power(over as u32, 20)
+        .times_power(FULL_LIGHT as u32, 9);
+    least(0, FULL_LIGHT as u32, |light| {
+        let left = Natural::one()
+            .times_power(under as u32, 20)
+            .times_power(light, 9);
+        left >= right
+    })
+}
+
+/// The least number for which a rising test holds; it holds for `high`.
+fn least(mut low: u32, mut high: u32, holds: impl Fn(u32) -> bool) -> u32 {
+    while low < high {
+        let half = (low + high) / 2;
+        if holds(half) {
+            high = half;
+        } else {
+            low = half + 1;
+        }
+    }
+    low
+}
+
+fn code_by_rule(system: &System, thresholds: &[u32], light: u16) -> u16 {
+    let k = i128::from(light);
+    if k * 10000 < system.beta * FULL_LIGHT {
+        // (219·4.5·L + 16)·s over 2·65535
+        let over = (219 * 9 * k + 16 * 2 * FULL_LIGHT) * system.scale;
+        return int(ratio(over, 2 * FULL_LIGHT)) as u16;
+    }
+    let reached = thresholds.partition_point(|&least| least <= u32::from(light));
+    system.lowest() + reached as u16
+}
+
+fn spans(system: &System, codes: &[u16]) -> Vec<(u16, u16)> {
+    let of_code = |code: u16| {
+        let least = codes.iter().position(|&c| c == code);
+        let greatest = codes.iter().rposition(|&c| c == code);
+        // 'Each nominal code has at least one light.'
+        (least.unwrap() as u16, greatest.unwrap() as u16)
+    };
+    (system.lowest()..=system.highest()).map(of_code).collect()
+}
+
+pub fn code_of_light(number: u32, light: u16) -> Outcome<u16> {
+    Ok(code_in(system(number)?, light))
+}
+
+pub fn code_in(system: &System, light: u16) -> u16 {
+    curve(system).codes[usize::from(light)]
+}
+
+pub fn span_of_code(number: u32, code: u16) -> Outcome<(u16, u16)> {
+    let system = system(number)?;
+    require(system.is_nominal(code), refusal::CODE)?;
+    Ok(span_in(system, code))
+}
+
+pub fn span_in(system: &System, code: u16) -> (u16, u16) {
+    curve(system).spans[usize::from(code - system.lowest())]
+}
+
+// ---- 'Float signals'; a float is given by its bits
+
+pub fn codes_of_signals(number: u32, signals: [u32; 3]) -> Outcome<[u16; 3]> {
+    let system = system(number)?;
+    require(signals.iter().all(|&bits| is_signal(bits)), refusal::SIGNAL)?;
+    Ok(signals.map(|bits| code_of_signal(system, bits)))
+}
+
+const SIGN: u32 = 1 << 31;
+const ONE: u32 = 0x3F80_0000;
+
+/// From 0 to 1: floats that are not negative stand in the order of their bits, with NaN above infinity.
+fn is_signal(bits: u32) -> bool {
+    bits <= ONE || bits == SIGN
+}
+
+/// INT((219·E' + 16)·s) of the exact value of a signal from 0 to 1.
+fn code_of_signal(system: &System, bits: u32) -> u16 {
+    let fraction = i128::from(bits & 0x7F_FFFF);
+    let (significand, digits_below_point) = match bits >> 23 & 0xFF {
+        0 => (fraction, 149),
+        exponent => (fraction + (1 << 23), 150 - exponent),
+    };
+    // A signal below 2^-76 is less than half a code, and its denominator may exceed an i128.
+    if digits_below_point > 100 {
+        return system.lowest();
+    }
+    let denominator = 1i128 << digits_below_point;
+    let over = (219 * significand + 16 * denominator) * system.scale;
+    // INT as above; the denominator is a power of two.
+    ((2 * over + denominator) >> (digits_below_point + 1)) as u16
+}
+
+pub fn signals_of_codes(number: u32, codes: [u16; 3]) -> Outcome<[u32; 3]> {
+    let system = system(number)?;
+    require(are_nominal_codes(system, codes), refusal::CODE)?;
+    let s = system.scale as u128;
+    Ok(codes.map(|code| nearest_f32(u128::from(code) - 16 * s, 219 * s)))
+}
+
+/// The bits of the float nearest to a ratio from 0 to 1 that is 0 or not subnormal, ties to even.
+pub fn nearest_f32(numerator: u128, denominator: u128) -> u32 {
+    if numerator == 0 {
+        return 0;
+    }
+    // 24 digits stand before the point.
+    let mut shift = 23;
+    while (numerator << shift) / denominator < 1 << 23 {
+        shift += 1;
+    }
+    let quotient = ((numerator << shift) / denominator) as u32;
+    let rest = (numerator << shift) % denominator;
+    let up = 2 * rest > denominator || 2 * rest == denominator && quotient % 2 == 1;
+    // The leading digit adds one to the exponent field, and so does a carry.
+    ((149 - shift) << 23) + quotient + u32::from(up)
+}
+
+// ---- 'Triples'
+
+fn are_nominal_codes(system: &System, codes: [u16; 3]) -> bool {
+    codes.iter().all(|&code| system.is_nominal(code))
+}
+
+fn are_nominal_words(system: &System, words: [u16; 3]) -> bool {
+    system.is_nominal(words[0])
+        && system.is_nominal_difference(words[1])
+        && system.is_nominal_difference(words[2])
+}
+
+/// What stands inside INT for Y', Cb and Cr of the codes R, G and B.
+pub fn word_values(system: &System, codes: [u16; 3]) -> [Ratio; 3] {
+    let Weights { kr, kg, kb } = system.weights;
+    let [r, g, b] = codes.map(i128::from);
+    let luma = kr * r + kg * g + kb * b;
+    let difference = |primary: i128, weight: i128| {
+        let denominator = 219 * 2 * (10000 - weight);
+        let over = (10000 * primary - luma) * 224;
+        ratio(over + system.middle() * denominator, denominator)
+    };
+    [ratio(luma, 10000), difference(b, kb), difference(r, kr)]
+}
+
+fn words_in(system: &System, codes: [u16; 3]) -> [u16; 3] {
+    word_values(system, codes).map(|v| int(v) as u16)
+}
+
+pub fn words_of_codes(number: u32, codes: [u16; 3]) -> Outcome<[u16; 3]> {
+    let system = system(number)?;
+    require(are_nominal_codes(system, codes), refusal::CODE)?;
+    Ok(words_in(system, codes))
+}
+
+/// What stands inside INT for R, G and B of the words Y', Cb and Cr, over the denominators of q and the weights.
+fn code_values(system: &System, words: [u16; 3]) -> [Ratio; 3] {
+    let Weights { kr, kg, kb } = system.weights;
+    let y = i128::from(words[0]);
+    let cb = i128::from(words[1]) - system.middle();
+    let cr = i128::from(words[2]) - system.middle();
+    let direct = |difference: i128, weight: i128| {
+        let over = 219 * difference * 2 * (10000 - weight);
+        ratio(y * 224 * 10000 + over, 224 * 10000)
+    };
+    let of_cr = 219 * cr * 2 * kr * (10000 - kr);
+    let of_cb = 219 * cb * 2 * kb * (10000 - kb);
+    let denominator = 224 * 10000 * kg;
+    let green = ratio(y * denominator - of_cr - of_cb, denominator);
+    [direct(cr, kr), green, direct(cb, kb)]
+}
+
+/// The codes of nominal words, and how many of them were brought into the nominal range.
+fn decoded_in(system: &System, words: [u16; 3]) -> ([u16; 3], u32) {
+    let low = i128::from(system.lowest());
+    let high = i128::from(system.highest());
+    let components = code_values(system, words).map(int);
+    let beyond = components.iter().filter(|&&c| c < low || c > high).count();
+    (components.map(|c| c.clamp(low, high) as u16), beyond as u32)
+}
+
+pub fn codes_of_words(number: u32, words: [u16; 3]) -> Outcome<([u16; 3], u32)> {
+    let system = system(number)?;
+    require(are_nominal_words(system, words), refusal::CODE)?;
+    Ok(decoded_in(system, words))
+}
+
+// ---- 'Row block'
+
+pub const MOST_SAMPLES: usize = 7680;
+pub const MOST_ROWS: usize = 4320;
+
+pub fn block_bytes(width: usize) -> usize {
+    9 + 6 * width
+}
+
+/// What reading a block gives.
+#[derive(Debug)]
+pub struct Row {
+    pub system: u32,
+    pub number: u16,
+    pub samples: u16,
+    pub clipped: u32,
+    pub codes: Vec<u16>,
+}
+
+/// The bytes of a block with these sections, whatever their words are.
+pub fn block(system: u8, number: u16, sections: [&[u16]; 3]) -> Vec<u8> {
+    let mut bytes = vec![system];
+    bytes.extend(number.to_le_bytes());
+    for section in sections {
+        bytes.extend((section.len() as u16).to_le_bytes());
+        bytes.extend(section.iter().flat_map(|word| word.to_le_bytes()));
+    }
+    bytes
+}
+
+/// The block of a row of lights.
+fn block_of_lights(system: &System, number: u16, lights: &[u16]) -> Vec<u8> {
+    let mut sections = [vec![], vec![], vec![]];
+    for sample in lights.chunks_exact(3) {
+        let codes = [sample[0], sample[1], sample[2]].map(|light| code_in(system, light));
+        for (section, word) in sections.iter_mut().zip(words_in(system, codes)) {
+            section.push(word);
+        }
+    }
+    let [y, cb, cr] = &sections;
+    block(system.number as u8, number, [y, cb, cr])
+}
+
+/// Reads a block for a lent slice of so many places.
+pub fn read_block(bytes: &[u8], places: usize) -> Outcome<Row> {
+    let (head, mut rest) = front(bytes, 3)?;
+    let system = system(u32::from(head[0]))?;
+    let number = word_at(head, 1);
+    require(usize::from(number) < MOST_ROWS, refusal::ROW_NUMBER)?;
+    let y = section(&mut rest, None)?;
+    let cb = section(&mut rest, Some(y.len()))?;
+    let cr = section(&mut rest, Some(y.len()))?;
+    require(rest.is_empty(), refusal::BYTES_AFTER)?;
+    let words: Vec<[u16; 3]> = (0..y.len()).map(|j| [y[j], cb[j], cr[j]]).collect();
+    let nominal = words.iter().all(|&w| are_nominal_words(system, w));
+    require(nominal, refusal::CODE)?;
+    require(places >= 3 * words.len(), refusal::OUTPUT)?;
+    Ok(row_of_words(system, number, &words))
+}
+
+fn row_of_words(system: &System, number: u16, words: &[[u16; 3]]) -> Row {
+    let mut codes = Vec::new();
+    let mut clipped = 0;
+    for &sample in words {
+        let (decoded, beyond) = decoded_in(system, sample);
+        codes.extend(decoded);
+        clipped += beyond;
+    }
+    Row {
+        system: system.number,
+        number,
+        samples: words.len() as u16,
+        clipped,
+        codes,
+    }
+}
+
+/// The first bytes and those after them.
+fn front(bytes: &[u8], length: usize) -> Outcome<(&[u8], &[u8])> {
+    bytes.split_at_checked(length).ok_or(refusal::BLOCK_END)
+}
+
+fn word_at(bytes: &[u8], place: usize) -> u16 {
+    u16::from_le_bytes([bytes[place], bytes[place + 1]])
+}
+
+/// Takes a section from the front: a count, which is like the Y' count where there is one, and its words.
+fn section(rest: &mut &[u8], like: Option<usize>) -> Outcome<Vec<u16>> {
+    let (count, after_count) = front(rest, 2)?;
+    let count = usize::from(word_at(count, 0));
+    require((1..=MOST_SAMPLES).contains(&count), refusal::COUNT)?;
+    require(like.is_none_or(|y_count| y_count == count), refusal::COUNT)?;
+    let (words, after_words) = front(after_count, 2 * count)?;
+    *rest = after_words;
+    Ok(words.chunks_exact(2).map(|w| word_at(w, 0)).collect())
+}
+
+// ---- 'Picture'
+
+#[derive(Clone, Copy, Debug, PartialEq)]
+pub enum Picture {
+    Fresh,
+    Open(Opened),
+    Closed,
+}
+
+#[derive(Clone, Copy, Debug, PartialEq)]
+pub struct Opened {
+    pub system: u32,
+    pub width: usize,
+    pub height: usize,
+    pub rows: usize,
+}
+
+/// State is tested first, then input in the order of the numbers.
+pub fn open(picture: Picture, number: u32, width: u32, height: u32) -> Outcome<Picture> {
+    require(!matches!(picture, Picture::Open(_)), refusal::ALREADY_OPEN)?;
+    let system = system(number)?.number;
+    let (width, height) = (width as usize, height as usize);
+    require((1..=MOST_SAMPLES).contains(&width), refusal::WIDTH)?;
+    require((1..=MOST_ROWS).contains(&height), refusal::HEIGHT)?;
+    Ok(Picture::Open(Opened {
+        system,
+        width,
+        height,
+        rows: 0,
+    }))
+}
+
+fn opened(picture: Picture) -> Outcome<Opened> {
+    match picture {
+        Picture::Open(opened) => Ok(opened),
+        _ => Err(refusal::NOT_OPEN),
+    }
+}
+
+/// The picture after the row, and the row's block.
+pub fn row(picture: Picture, lights: &[u16], room: usize) -> Outcome<(Picture, Vec<u8>)> {
+    let opened = opened(picture)?;
+    require(opened.rows < opened.height, refusal::ALL_ROWS)?;
+    require(lights.len() == 3 * opened.width, refusal::LIGHTS)?;
+    require(room >= block_bytes(opened.width), refusal::OUTPUT)?;
+    let block = block_of_lights(system(opened.system)?, opened.rows as u16, lights);
+    let rows = opened.rows + 1;
+    Ok((Picture::Open(Opened { rows, ..opened }), block))
+}
+
+pub fn close(picture: Picture) -> Outcome<Picture> {
+    let opened = opened(picture)?;
+    require(opened.rows == opened.height, refusal::ROWS_MISSING)?;
+    Ok(Picture::Closed)
+}

@@ -1,0 +1,86 @@
+//! The exact program for C (exact.h), with the answers of include/ferghulta.h.
+pub mod answers;
+pub mod exact;
+pub mod natural;
+
+use answers::*;
+use std::slice::{from_raw_parts, from_raw_parts_mut};
+
+/// # Safety
+/// The pointers are of so many items that nothing else uses meanwhile; this holds for each function here that takes pointers.
+#[no_mangle]
+pub unsafe extern "C" fn exact_read_block(
+    bytes: *const u8,
+    length: usize,
+    codes: *mut u16,
+    places: usize,
+) -> BlockAnswer {
+    let outcome = exact::read_block(from_raw_parts(bytes, length), places);
+    if let Ok(row) = &outcome {
+        from_raw_parts_mut(codes, row.codes.len()).copy_from_slice(&row.codes);
+    }
+    BlockAnswer::from(&outcome)
+}
+
+#[no_mangle]
+pub extern "C" fn exact_open(
+    picture: Picture,
+    system: u32,
+    width: u32,
+    height: u32,
+) -> PictureAnswer {
+    let outcome = exact::open(picture.taken(), system, width, height);
+    PictureAnswer::of(picture, outcome)
+}
+
+/// # Safety
+/// As `exact_read_block`.
+#[no_mangle]
+pub unsafe extern "C" fn exact_row(
+    picture: Picture,
+    lights: *const u16,
+    count: usize,
+    out: *mut u8,
+    room: usize,
+) -> PictureAnswer {
+    let outcome = exact::row(picture.taken(), from_raw_parts(lights, count), room);
+    if let Ok((_, block)) = &outcome {
+        from_raw_parts_mut(out, block.len()).copy_from_slice(block);
+    }
+    PictureAnswer::of(picture, outcome.map(|(after, _)| after))
+}
+
+#[no_mangle]
+pub extern "C" fn exact_close(picture: Picture) -> PictureAnswer {
+    PictureAnswer::of(picture, exact::close(picture.taken()))
+}
+
+#[no_mangle]
+pub extern "C" fn exact_code_of_light(system: u32, light: u16) -> CodeAnswer {
+    exact::code_of_light(system, light).into()
+}
+
+#[no_mangle]
+pub extern "C" fn exact_span_of_code(system: u32, code: u16) -> SpanAnswer {
+    exact::span_of_code(system, code).into()
+}
+
+#[no_mangle]
+pub extern "C" fn exact_codes_of_signals(system: u32, signals: Signals) -> TripleAnswer {
+    exact::codes_of_signals(system, signals.into()).into()
+}
+
+#[no_mangle]
+pub extern "C" fn exact_signals_of_codes(system: u32, codes: Triple) -> SignalsAnswer {
+    exact::signals_of_codes(system, codes.into()).into()
+}
+
+#[no_mangle]
+pub extern "C" fn exact_words_of_codes(system: u32, codes: Triple) -> TripleAnswer {
+    exact::words_of_codes(system, codes.into()).into()
+}
+
+#[no_mangle]
+pub extern "C" fn exact_codes_of_words(system: u32, words: Triple) -> DecodedAnswer {
+    exact::codes_of_words(system, words.into()).into()
+}

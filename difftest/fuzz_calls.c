@@ -1,0 +1,193 @@
+/* Lists of calls beside the exact program. libFuzzer's bytes are read as a list; the picture goes from call to call. */
+#include "harness.h"
+
+enum { MOST_CALLS = 40, MOST_LIGHTS = 3 * FERGHULTA_MOST_SAMPLES + 8, MOST_ROOM = FERGHULTA_BLOCK_BYTES(FERGHULTA_MOST_SAMPLES) + 8 };
+
+struct list {
+    const uint8_t *at, *end;
+    ferghulta_picture picture;
+    uint8_t block[MOST_ROOM]; /* of the last row */
+    size_t block_bytes;
+};
+
+static uint8_t *lights_end, *out_end;
+
+int LLVMFuzzerInitialize(int *argc, char ***argv)
+{
+    (void)argc, (void)argv;
+    lights_end = fenced_end();
+    out_end = fenced_end();
+    return atexit(print_compared);
+}
+
+/* ---- the list's bytes */
+
+static uint8_t byte(struct list *list)
+{
+    return list->at < list->end ? *list->at++ : 0;
+}
+
+static uint16_t word(struct list *list)
+{
+    uint16_t low = byte(list);
+    return (uint16_t)(low | byte(list) << 8);
+}
+
+static uint32_t long_word(struct list *list)
+{
+    uint32_t low = word(list);
+    return low | (uint32_t)word(list) << 16;
+}
+
+/* Mostly a small number, else any. */
+static uint32_t number(struct list *list, uint32_t small)
+{
+    uint8_t kind = byte(list);
+    return kind < 240 ? kind % small : kind < 248 ? word(list) : long_word(list);
+}
+
+/* Mostly what is asked for, else a few more or fewer. */
+static size_t nearly(struct list *list, size_t asked, size_t most)
+{
+    uint8_t kind = byte(list);
+    size_t off = kind < 192 ? 0 : kind % 8;
+    size_t items = kind < 224 ? asked + off : asked < off ? 0 : asked - off;
+    return items > most ? most : items;
+}
+
+/* ---- pictures */
+
+static void go_on(struct list *list, enum call call, ferghulta_picture_answer got, ferghulta_picture_answer wanted)
+{
+    note(call, got.refusal);
+    agree(call, "the answer", &got, &wanted, sizeof got);
+    list->picture = got.picture;
+}
+
+static void open_picture(struct list *list)
+{
+    uint32_t system = number(list, 6), width = number(list, 12), height = number(list, 4);
+    go_on(list, OPEN, ferghulta_open(list->picture, system, width, height), exact_open(list->picture, system, width, height));
+}
+
+static void close_picture(struct list *list)
+{
+    go_on(list, CLOSE, ferghulta_close(list->picture), exact_close(list->picture));
+}
+
+/* Lights by a step from a start: two words make a row. */
+static void fill_lights(struct list *list, uint16_t *lights, size_t count)
+{
+    uint16_t light = word(list), step = word(list);
+    for (size_t j = 0; j < count; j++, light += step)
+        lights[j] = light;
+}
+
+static void take_row(struct list *list)
+{
+    static uint16_t given[MOST_LIGHTS];
+    static uint8_t wanted_out[MOST_ROOM];
+    size_t width = list->picture.width;
+    size_t count = nearly(list, FERGHULTA_ROW_CODES(width), MOST_LIGHTS);
+    size_t room = nearly(list, FERGHULTA_BLOCK_BYTES(width), MOST_ROOM);
+    uint16_t *lights = (uint16_t *)lights_end - count;
+    uint8_t *out = out_end - room;
+    fill_lights(list, lights, count);
+    memcpy(given, lights, count * sizeof *lights);
+    memcpy(wanted_out, out, room);
+    ferghulta_picture_answer got = ferghulta_row(list->picture, lights, count, out, room);
+    ferghulta_picture_answer wanted = exact_row(list->picture, given, count, wanted_out, room);
+    agree(ROW, "the lights lent", lights, given, count * sizeof *lights);
+    agree(ROW, "the buffer", out, wanted_out, room);
+    if (got.refusal == 0) {
+        list->block_bytes = FERGHULTA_BLOCK_BYTES(width);
+        memcpy(list->block, out, list->block_bytes);
+    }
+    go_on(list, ROW, got, wanted);
+}
+
+/* The last row's block, with a byte changed if the list says so. */
+static void read_row(struct list *list)
+{
+    static uint16_t codes[MOST_LIGHTS], wanted_codes[MOST_LIGHTS];
+    size_t length = list->block_bytes, places = nearly(list, length / 2, MOST_LIGHTS);
+    uint8_t change = byte(list);
+    if (change != 0 && length > 0)
+        list->block[word(list) % length] ^= change;
+    ferghulta_block_answer got = ferghulta_read_block(list->block, length, codes, places);
+    ferghulta_block_answer wanted = exact_read_block(list->block, length, wanted_codes, places);
+    note(READ_BLOCK, got.refusal);
+    agree(READ_BLOCK, "the answer", &got, &wanted, sizeof got);
+    agree(READ_BLOCK, "the codes", codes, wanted_codes, sizeof codes);
+}
+
+/* A picture that came from no call: its numbers are mostly in their ranges. */
+static void any_picture(struct list *list)
+{
+    list->picture.phase = byte(list) % 4;
+    list->picture.system = (uint8_t)number(list, 6);
+    list->picture.width = (uint16_t)number(list, 12);
+    list->picture.height = word(list) % 5000;
+    list->picture.rows = word(list) % 5000;
+}
+
+/* ---- values; the parts of an answer have no padding, the answer may */
+
+#define AGREE(call, got, wanted, part) \
+    do { \
+        note(call, (got).refusal); \
+        agree(call, "the refusal", &(got).refusal, &(wanted).refusal, sizeof(got).refusal); \
+        agree(call, #part, &(got).part, &(wanted).part, sizeof(got).part); \
+    } while (0)
+
+static void lights_and_codes(struct list *list)
+{
+    uint32_t system = number(list, 6);
+    uint16_t light = word(list), code = (uint16_t)number(list, 240);
+    ferghulta_code_answer coded = ferghulta_code_of_light(system, light), exactly_coded = exact_code_of_light(system, light);
+    ferghulta_span_answer span = ferghulta_span_of_code(system, code), exact_span = exact_span_of_code(system, code);
+    AGREE(CODE_OF_LIGHT, coded, exactly_coded, code);
+    AGREE(SPAN_OF_CODE, span, exact_span, span);
+}
+
+static void signals(struct list *list)
+{
+    uint32_t system = number(list, 6), bits[3];
+    for (int place = 0; place < 3; place++)
+        bits[place] = long_word(list);
+    ferghulta_signals given;
+    memcpy(&given, bits, sizeof given);
+    ferghulta_codes_answer got = ferghulta_codes_of_signals(system, given), wanted = exact_codes_of_signals(system, given);
+    AGREE(CODES_OF_SIGNALS, got, wanted, codes);
+}
+
+static void triples(struct list *list)
+{
+    uint32_t system = number(list, 6);
+    uint16_t first = word(list), second = word(list), third = word(list);
+    ferghulta_codes codes = { first, second, third };
+    ferghulta_words words = { first, second, third };
+    ferghulta_signals_answer restored = ferghulta_signals_of_codes(system, codes), exactly_restored = exact_signals_of_codes(system, codes);
+    ferghulta_words_answer encoded = ferghulta_words_of_codes(system, codes), exactly_encoded = exact_words_of_codes(system, codes);
+    ferghulta_decoded_answer decoded = ferghulta_codes_of_words(system, words), exactly_decoded = exact_codes_of_words(system, words);
+    AGREE(SIGNALS_OF_CODES, restored, exactly_restored, signals);
+    AGREE(WORDS_OF_CODES, encoded, exactly_encoded, words);
+    AGREE(CODES_OF_WORDS, decoded, exactly_decoded, codes);
+    agree(CODES_OF_WORDS, "clipped", &decoded.clipped, &exactly_decoded.clipped, sizeof decoded.clipped);
+}
+
+static void (*const calls[])(struct list *) = {
+    open_picture, take_row, take_row, take_row, close_picture, read_row, any_picture, lights_and_codes, signals, triples,
+};
+
+int LLVMFuzzerTestOneInput(const uint8_t *data, size_t size)
+{
+    static struct list list;
+    list.at = data;
+    list.end = data + size;
+    list.picture = ferghulta_new();
+    list.block_bytes = 0;
+    for (int call = 0; call < MOST_CALLS && list.at < list.end; call++)
+        calls[byte(&list) % (sizeof calls / sizeof calls[0])](&list);
+    return 0;
+}

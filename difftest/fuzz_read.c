@@ -1,0 +1,74 @@
+/* Block reading beside the exact program, on blocks that libFuzzer makes.
+ *
+ * The first byte says how many places are lent beside those that the first count asks for. The rest is the block; where the second
+ * byte is odd it is stretched: the words after the first count are repeated to fill three sections of that count.
+ */
+#include "harness.h"
+
+enum { MOST_BYTES = 50000, MOST_PLACES = 3 * FERGHULTA_MOST_SAMPLES + 200, GUARD = 16 };
+
+static uint8_t *bytes_end, *codes_end;
+
+int LLVMFuzzerInitialize(int *argc, char ***argv)
+{
+    (void)argc, (void)argv;
+    bytes_end = fenced_end();
+    codes_end = fenced_end();
+    return atexit(print_compared);
+}
+
+static uint16_t first_count(const uint8_t *block, size_t length)
+{
+    return length < 5 ? 0 : (uint16_t)(block[3] | block[4] << 8);
+}
+
+static size_t places_for(int8_t more, uint16_t count)
+{
+    long places = 3L * count + more;
+    return places < 0 ? 0 : places > MOST_PLACES ? MOST_PLACES : (size_t)places;
+}
+
+static size_t stretch(const uint8_t *block, size_t length, uint8_t *to)
+{
+    size_t count = first_count(block, length) % (FERGHULTA_MOST_SAMPLES + 2), words = length - 5, at = 3;
+    memcpy(to, block, 3);
+    for (size_t section = 0; section < 3; section++) {
+        to[at++] = count & 0xFF;
+        to[at++] = (uint8_t)(count >> 8);
+        for (size_t byte = 0; byte < 2 * count; byte++)
+            to[at++] = block[5 + (byte + section * words / 3) % words];
+    }
+    return at;
+}
+
+static void compare(const uint8_t *block, size_t length, size_t places)
+{
+    static uint16_t wanted_memory[GUARD + MOST_PLACES];
+    uint8_t *bytes = bytes_end - length;
+    uint16_t *codes = (uint16_t *)codes_end - places, *memory = codes - GUARD;
+    size_t memory_bytes = (GUARD + places) * sizeof *memory;
+    memcpy(bytes, block, length);
+    memset(memory, 0xA5, memory_bytes);
+    memset(wanted_memory, 0xA5, memory_bytes);
+    ferghulta_block_answer got = ferghulta_read_block(bytes, length, codes, places);
+    ferghulta_block_answer wanted = exact_read_block(block, length, wanted_memory + GUARD, places);
+    note(READ_BLOCK, got.refusal);
+    agree(READ_BLOCK, "the answer", &got, &wanted, sizeof got);
+    agree(READ_BLOCK, "the codes", memory, wanted_memory, memory_bytes);
+    agree(READ_BLOCK, "the bytes lent", bytes, block, length);
+}
+
+int LLVMFuzzerTestOneInput(const uint8_t *data, size_t size)
+{
+    static uint8_t stretched[MOST_BYTES];
+    if (size < 2 || size > MOST_BYTES)
+        return 0;
+    const uint8_t *block = data + 2;
+    size_t length = size - 2;
+    if (data[1] % 2 == 1 && length > 5) {
+        length = stretch(block, length, stretched);
+        block = stretched;
+    }
+    compare(block, length, places_for((int8_t)data[0], first_count(block, length)));
+    return 0;
+}

@@ -1,0 +1,76 @@
+/* What both fuzz programs use: fenced memory, and counts of the answers by call and refusal. */
+#ifndef HARNESS_H
+#define HARNESS_H
+
+#include "exact.h"
+#include <stdio.h>
+#include <stdlib.h>
+#include <string.h>
+#include <sys/mman.h>
+
+enum { FENCED_PAGES = 16, PAGE = 4096, REFUSALS = 32 };
+
+enum call {
+    OPEN,
+    ROW,
+    CLOSE,
+    READ_BLOCK,
+    CODE_OF_LIGHT,
+    SPAN_OF_CODE,
+    CODES_OF_SIGNALS,
+    SIGNALS_OF_CODES,
+    WORDS_OF_CODES,
+    CODES_OF_WORDS,
+    CALLS
+};
+
+static const char *const names[CALLS] = { "open", "row", "close", "read_block", "code_of_light", "span_of_code", "codes_of_signals",
+    "signals_of_codes", "words_of_codes", "codes_of_words" };
+
+/* The library is not instrumented, so its refusals are told to libFuzzer as counters of their own. */
+__attribute__((section("__libfuzzer_extra_counters"))) static uint8_t refused[CALLS][REFUSALS];
+static unsigned long compared[CALLS][REFUSALS];
+
+static inline void note(enum call call, uint32_t refusal)
+{
+    refused[call][refusal % REFUSALS] = 1;
+    compared[call][refusal % REFUSALS]++;
+}
+
+static inline void print_compared(void)
+{
+    for (int call = 0; call < CALLS; call++) {
+        unsigned long all = 0;
+        for (int refusal = 0; refusal < REFUSALS; refusal++)
+            all += compared[call][refusal];
+        if (all == 0)
+            continue;
+        printf("%s %lu compared, 0 differ; by refusal", names[call], all);
+        for (int refusal = 0; refusal < REFUSALS; refusal++)
+            if (compared[call][refusal] > 0)
+                printf(" %d: %lu", refusal, compared[call][refusal]);
+        printf("\n");
+    }
+}
+
+/* A difference ends the program; libFuzzer keeps the input. */
+static inline void agree(enum call call, const char *what, const void *got, const void *wanted, size_t size)
+{
+    if (memcmp(got, wanted, size) == 0)
+        return;
+    fprintf(stderr, "%s differs: %s\n", names[call], what);
+    abort();
+}
+
+/* The end of fresh pages that are filled with a pattern; a call that reads or writes behind it is ended there. */
+static inline uint8_t *fenced_end(void)
+{
+    size_t size = FENCED_PAGES * PAGE;
+    uint8_t *first = mmap(NULL, size + PAGE, PROT_READ | PROT_WRITE, MAP_PRIVATE | MAP_ANONYMOUS, -1, 0);
+    if (first == MAP_FAILED || mprotect(first + size, PAGE, PROT_NONE) != 0)
+        abort();
+    memset(first, 0xA5, size);
+    return first + size;
+}
+
+#endif

@@ -19,7 +19,7 @@ VERSION := $(shell sed -n 's/^.define FERGHULTA_VERSION "\(.*\)"/\1/p' $(HEADER)
 # The archive is proved from these; rt itself knows which crates are out of date.
 SOURCES := crates.txt $(shell find crates -name '*.rt' -o -name '*.antt')
 
-.PHONY: all test example example-rust check-c bench difftest difftest-long difftest-valgrind fuzz \
+.PHONY: all test example example-rust check-c bench difftest difftest-long difftest-valgrind difftest-mutants fuzz \
         install uninstall clean help
 
 all: $(ARCHIVE)
@@ -63,17 +63,8 @@ $(BUILD):
 bench: $(ARCHIVE)
 	$(MAKE) -C bench
 
-difftest: $(ARCHIVE)
-	$(MAKE) -C difftest
-
-difftest-long: $(ARCHIVE)
-	$(MAKE) -C difftest long
-
-difftest-valgrind: $(ARCHIVE)
-	$(MAKE) -C difftest valgrind
-
-fuzz: $(ARCHIVE)
-	$(MAKE) -C difftest fuzz
+difftest difftest-long difftest-valgrind difftest-mutants fuzz: $(ARCHIVE)
+	$(MAKE) -C difftest $@
 
 # ---- installation
 
@@ -99,7 +90,7 @@ help:
 	@echo 'make test               rt ci: everything proved from nothing, wrong builds refused, programs run'
 	@echo 'make bench              times (docs/BENCHMARKS.md)'
 	@echo 'make difftest           comparisons with programs that share no code (docs/TESTING.md);'
-	@echo '                        also difftest-long, difftest-valgrind, fuzz'
+	@echo '                        also difftest-long, difftest-valgrind, difftest-mutants, fuzz'
 	@echo 'make install            header, archive and ferghulta.pc to PREFIX=$(PREFIX), below DESTDIR'
 	@echo 'make uninstall          removes these three'
 	@echo 'make clean              removes the examples, not the proofs and the archive'

@@ -86,17 +86,17 @@ static void triples(void) {
     expect_codes(1, red_words, red_back, 0);
     expect_codes(1, blue_words, blue_back, 0);
     expect_codes(1, clipped_words, clipped_codes, 1);
-    expect("low words", ferghulta_codes_of_words(1, low_words).refusal, FERGHULTA_CODE);
+    expect("low words", ferghulta_codes_of_words(1, low_words).refusal, FERGHULTA_REFUSED_CODE);
 }
 
 static void widths(void) {
     static uint16_t lights[FERGHULTA_ROW_CODES(WIDEST)];
     static uint8_t block[FERGHULTA_BLOCK_BYTES(WIDEST)];
     ferghulta_picture picture = ferghulta_new();
-    expect("width 0", ferghulta_open(picture, 1, 0, 1).refusal, FERGHULTA_WIDTH);
-    expect("width 7681", ferghulta_open(picture, 1, 7681, 1).refusal, FERGHULTA_WIDTH);
+    expect("width 0", ferghulta_open(picture, 1, 0, 1).refusal, FERGHULTA_REFUSED_WIDTH);
+    expect("width 7681", ferghulta_open(picture, 1, 7681, 1).refusal, FERGHULTA_REFUSED_WIDTH);
     picture = ferghulta_open(picture, 1, WIDEST, 1).picture;
-    expect("46088 bytes", ferghulta_row(picture, lights, 3 * WIDEST, block, 46088).refusal, FERGHULTA_OUTPUT);
+    expect("46088 bytes", ferghulta_row(picture, lights, 3 * WIDEST, block, 46088).refusal, FERGHULTA_REFUSED_OUTPUT);
     ferghulta_picture_answer answer = ferghulta_row(picture, lights, 3 * WIDEST, block, 46089);
     expect("46089 bytes", answer.refusal, 0);
     expect("rows accepted", answer.picture.rows, 1);

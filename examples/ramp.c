@@ -14,13 +14,13 @@ static uint16_t codes[LIGHTS];
 
 static const char *meaning(uint32_t refusal) {
     switch (refusal) {
-    case FERGHULTA_WIDTH: return "width not 1 to 7680";
-    case FERGHULTA_LIGHTS: return "lights not 3 * width";
-    case FERGHULTA_OUTPUT: return "lent output too short";
-    case FERGHULTA_CODE: return "code or word outside nominal";
-    case FERGHULTA_BLOCK_END: return "block ends too early";
-    case FERGHULTA_NOT_OPEN: return "row or close while not open";
-    case FERGHULTA_ROWS_MISSING: return "close with rows missing";
+    case FERGHULTA_REFUSED_WIDTH: return "width not 1 to 7680";
+    case FERGHULTA_REFUSED_LIGHTS: return "lights not 3 * width";
+    case FERGHULTA_REFUSED_OUTPUT: return "lent output too short";
+    case FERGHULTA_REFUSED_CODE: return "code or word outside nominal";
+    case FERGHULTA_REFUSED_BLOCK_END: return "block ends too early";
+    case FERGHULTA_REFUSED_NOT_OPEN: return "row or close while not open";
+    case FERGHULTA_REFUSED_ROWS_MISSING: return "close with rows missing";
     default: return "see enum ferghulta_refusal";
     }
 }

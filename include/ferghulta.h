@@ -6,9 +6,10 @@
  * has a state of its own, so calls may run at once in several threads.
  *
  * What a caller owes: a pointer and a count are of memory that is lent for the call, with nothing else writing it, and
- * memory that is written is shared with no other argument. A pointer with a count of 0 must not be null either, and is
- * not followed. The calls on signals need floating point as a C program starts with it: rounding to nearest, subnormals
- * kept (a program linked with -ffast-math drops them, and a signal just below 0 would pass for 0).
+ * memory that is written is shared with no other argument. Words are aligned as C aligns them; bytes may begin anywhere.
+ * A pointer with a count of 0 must not be null either, and is not followed. The calls with lights use up to 40 KB of
+ * stack. The calls on signals need floating point as a C program starts with it: rounding to nearest, subnormals kept
+ * (a program linked with -ffast-math drops them, and a signal just below 0 would pass for 0).
  *
  * An answer has a field `refusal`: 0 where the call was accepted, else the number of the refusal. Then the answer's
  * other numbers are 0, lent memory is as it was, and a picture comes back as it was given.
@@ -42,21 +43,21 @@ enum ferghulta_system {
  * a block are in the order that ferghulta_read_block names. */
 enum ferghulta_refusal {
     FERGHULTA_ACCEPTED = 0,
-    FERGHULTA_SYSTEM = 1,        /* system not 1 to 4 */
-    FERGHULTA_WIDTH = 2,         /* width not 1 to 7680 */
-    FERGHULTA_HEIGHT = 3,        /* height not 1 to 4320 */
-    FERGHULTA_LIGHTS = 4,        /* lights not 3 * width */
-    FERGHULTA_OUTPUT = 5,        /* lent output too short */
-    FERGHULTA_CODE = 6,          /* code or word outside nominal */
-    FERGHULTA_SIGNAL = 7,        /* signal below 0, above 1, or not a number */
-    FERGHULTA_BLOCK_END = 8,     /* block ends too early */
-    FERGHULTA_COUNT = 9,         /* count 0, above 7680, or unlike the Y' count */
-    FERGHULTA_ROW_NUMBER = 10,   /* block's row number above 4319 */
-    FERGHULTA_BYTES_AFTER = 11,  /* bytes after the Cr section */
-    FERGHULTA_ALREADY_OPEN = 21, /* open while open */
-    FERGHULTA_NOT_OPEN = 22,     /* row or close while not open */
-    FERGHULTA_ALL_ROWS = 23,     /* row when all rows are accepted */
-    FERGHULTA_ROWS_MISSING = 24  /* close with rows missing */
+    FERGHULTA_REFUSED_SYSTEM = 1,        /* system not 1 to 4 */
+    FERGHULTA_REFUSED_WIDTH = 2,         /* width not 1 to 7680 */
+    FERGHULTA_REFUSED_HEIGHT = 3,        /* height not 1 to 4320 */
+    FERGHULTA_REFUSED_LIGHTS = 4,        /* lights not 3 * width */
+    FERGHULTA_REFUSED_OUTPUT = 5,        /* lent output too short */
+    FERGHULTA_REFUSED_CODE = 6,          /* code or word outside nominal */
+    FERGHULTA_REFUSED_SIGNAL = 7,        /* signal below 0, above 1, or not a number */
+    FERGHULTA_REFUSED_BLOCK_END = 8,     /* block ends too early */
+    FERGHULTA_REFUSED_COUNT = 9,         /* count 0, above 7680, or unlike the Y' count */
+    FERGHULTA_REFUSED_ROW_NUMBER = 10,   /* block's row number above 4319 */
+    FERGHULTA_REFUSED_BYTES_AFTER = 11,  /* bytes after the Cr section */
+    FERGHULTA_REFUSED_ALREADY_OPEN = 21, /* open while open */
+    FERGHULTA_REFUSED_NOT_OPEN = 22,     /* row or close while not open */
+    FERGHULTA_REFUSED_ALL_ROWS = 23,     /* row when all rows are accepted */
+    FERGHULTA_REFUSED_ROWS_MISSING = 24  /* close with rows missing */
 };
 
 /* ---- Light and code. A light k, 0 to 65535, means the linear light k / 65535. */
@@ -157,8 +158,9 @@ enum ferghulta_phase { FERGHULTA_FRESH = 0, FERGHULTA_OPEN = 1, FERGHULTA_CLOSED
 
 /* A picture in eight bytes, which the caller keeps: a call is given it and answers with the picture that the next call
  * is to be given. Read its fields freely, and let the calls alone change them. While it is not open they are 0 but for
- * the phase, so all zero is a fresh picture. A value that no call gives (another phase, or open with a number out of
- * its range) is not open: it is taken as fresh. */
+ * the phase, so all zero is a fresh picture; of a picture that is not open the calls read the phase alone. A value that
+ * no call gives (another phase, or open with a number out of its range or with more rows than its height) is not open:
+ * it is taken as fresh. */
 typedef struct ferghulta_picture {
     uint8_t phase, system;
     uint16_t width, height, rows; /* rows: how many were accepted since open */

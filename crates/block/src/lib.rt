@@ -1,8 +1,10 @@
 // The row block, and reading it (document 01, 'Row block').
-use matrix::Clipped;
 use matrix::Words;
-use matrix::codes_709;
-use matrix::codes_2020;
+use matrix::beyond;
+use matrix::clip;
+use matrix::raised_709;
+use matrix::raised_2020;
+use systems::Codes;
 use systems::Matrix;
 use systems::Named;
 use systems::Range;
@@ -12,12 +14,13 @@ ghost use mathlib.Core.Path.{_≡_};
 ghost use mathlib.Core.List.{_++_};
 ghost use Prim.Native.Nat.{_+_, _*_, _<_, _≤_};
 ghost use lib.Dec.{eqb};
-ghost use lib.ListN.{length, drop};
+ghost use lib.ListN.{length, take, drop};
 ghost use lib.Seq.{sets};
 ghost use Rattle.systems.specs.Systems.{scale, within};
 ghost use Rattle.systems.specs.declared.Matrix.the-variants.{Bt709, Bt2020};
-ghost use Rattle.block.specs.Read.{fieldAt, sectionAt, sections, walk, sampleAt, nominalTo, decoded, listed, codesTo, clippedTo, rowOf, headerOf, sliceAfter, toldHeader};
-ghost use Rattle.block.specs.Steps.{toldCount, toldWalk, inRange, Decodable};
+ghost use Rattle.matrix.specs.Rows.{Clippable};
+ghost use Rattle.block.specs.Read.{fieldAt, sectionAt, sections, walk, sampleAt, nominalTo, listed, codesTo, clippedTo, rowOf, headerOf, sliceAfter, toldHeader};
+ghost use Rattle.block.specs.Steps.{toldCount, toldWalk, inRange, Decodable, raisedRow, listedTo, clippedAll, beyondAll};
 
 // What a block says of its row, and how many components were clipped in its codes.
 pub struct Header {
@@ -196,40 +199,36 @@ fn decode(system: System, bytes: &[u8], codes: &mut [u16], samples: usize) -> u3
 {
     let s = system.scale();
     match system.matrix() {
-        Matrix::Bt709 => decode_709(s, bytes, codes, samples),
-        Matrix::Bt2020 => decode_2020(s, bytes, codes, samples),
+        Matrix::Bt709 => raise_709(s, bytes, codes, samples),
+        Matrix::Bt2020 => raise_2020(s, bytes, codes, samples),
     }
+    clip_all(system.nominal(), codes, 3 * samples) as u32
 }
 
-// A loop for each matrix, so that its divisors are known where the loop is compiled.
-fn decode_709(s: u16, bytes: &[u8], codes: &mut [u16], samples: usize) -> u32
+// The samples' R, G and B before they are clipped. A loop for each matrix, so that its divisors are known where the loop is
+// compiled.
+fn raise_709(s: u16, bytes: &[u8], codes: &mut [u16], samples: usize)
     requires { ⌜ Decodable s (now bytes) samples (length (now codes)) ⌝ }
-    ensures { λ r. ⌜ r ≡ clippedTo (decoded Bt709 s (sampleAt (now (bytes .entry)) samples)) samples ⌝ }
-    ensures { λ r. ⌜ now (codes .exit) ≡ codesTo (decoded Bt709 s (sampleAt (now (bytes .entry)) samples)) samples ++ drop (3 * samples) (now (codes .entry)) ⌝ }
+    ensures { λ r. ⌜ now (codes .exit) ≡ listedTo (raisedRow Bt709 s (sampleAt (now (bytes .entry)) samples)) samples ++ drop (3 * samples) (now (codes .entry)) ⌝ }
 {
-    let mut clipped: u32 = 0;
     let mut i: usize = 0;
     while i < samples {
         let words = words_at(bytes, samples, i);
-        clipped += store(codes, i, codes_709(s, words));
+        store(codes, i, raised_709(s, words));
         i += 1;
     }
-    clipped
 }
 
-fn decode_2020(s: u16, bytes: &[u8], codes: &mut [u16], samples: usize) -> u32
+fn raise_2020(s: u16, bytes: &[u8], codes: &mut [u16], samples: usize)
     requires { ⌜ Decodable s (now bytes) samples (length (now codes)) ⌝ }
-    ensures { λ r. ⌜ r ≡ clippedTo (decoded Bt2020 s (sampleAt (now (bytes .entry)) samples)) samples ⌝ }
-    ensures { λ r. ⌜ now (codes .exit) ≡ codesTo (decoded Bt2020 s (sampleAt (now (bytes .entry)) samples)) samples ++ drop (3 * samples) (now (codes .entry)) ⌝ }
+    ensures { λ r. ⌜ now (codes .exit) ≡ listedTo (raisedRow Bt2020 s (sampleAt (now (bytes .entry)) samples)) samples ++ drop (3 * samples) (now (codes .entry)) ⌝ }
 {
-    let mut clipped: u32 = 0;
     let mut i: usize = 0;
     while i < samples {
         let words = words_at(bytes, samples, i);
-        clipped += store(codes, i, codes_2020(s, words));
+        store(codes, i, raised_2020(s, words));
         i += 1;
     }
-    clipped
 }
 
 // The words of sample i.
@@ -244,13 +243,30 @@ fn words_at(bytes: &[u8], samples: usize, i: usize) -> Words
     }
 }
 
-// Stores the codes of sample i, and gives how many of them were clipped.
-fn store(codes: &mut [u16], i: usize, c: Clipped) -> u32
+// Stores R, G and B of sample i.
+fn store(codes: &mut [u16], i: usize, c: Codes)
     requires { ⌜ (3 * i + 3 ≤ length (now codes)) × (i ≤ 7680) ⌝ }
-    ensures { λ r. ⌜ (r ≡ c .count) × (now (codes .exit) ≡ sets (now (codes .entry)) (3 * i) (listed (c .codes))) ⌝ }
+    ensures { λ r. ⌜ now (codes .exit) ≡ sets (now (codes .entry)) (3 * i) (listed c) ⌝ }
 {
-    codes[3 * i] = c.codes.r;
-    codes[3 * i + 1] = c.codes.g;
-    codes[3 * i + 2] = c.codes.b;
-    c.count
+    codes[3 * i] = c.r;
+    codes[3 * i + 1] = c.g;
+    codes[3 * i + 2] = c.b;
+}
+
+// Clips the first components of a slice, which were raised, and counts those beyond the range. A loop of its own, so that
+// several are clipped at a time.
+fn clip_all(range: Range, codes: &mut [u16], count: usize) -> u16
+    requires { ⌜ Clippable range × (count ≤ length (now codes)) × (count ≤ 3 * 7680) ⌝ }
+    ensures { λ r. ⌜ r ≡ beyondAll range (take count (now (codes .entry))) ⌝ }
+    ensures { λ r. ⌜ now (codes .exit) ≡ clippedAll range (take count (now (codes .entry))) ++ drop count (now (codes .entry)) ⌝ }
+{
+    let mut bad: u16 = 0;
+    let mut i: usize = 0;
+    while i < count {
+        let v = codes[i];
+        bad += beyond(range, v);
+        codes[i] = clip(range, v);
+        i += 1;
+    }
+    bad
 }

@@ -7,8 +7,8 @@ use Prim.Native.Nat.{ℕ, _+_, _*_, _-_, _≤_, _<_}
 use native.Mathlib.Nat.{le-refl}
 use native.Mathlib.Omega.{arith}
 use lib.Dec.{T, ltb}
-use lib.IntN.{ℤ, pos, negsuc, natAbs, subℕ}
-use lib.Signed.{nonNeg, ltZ}
+use lib.IntN.{ℤ, pos, negsuc, subℕ}
+use lib.Signed.{ltZ}
 use borrow.Author.Tests.{ltb-true, ltb-false, le-ltb}
 use Rattle.exact.specs.Signed.{rounded}
 use Rattle.exact.proofs.Order.{below-or-not}
@@ -19,14 +19,8 @@ use Rattle.matrix.specs.declared.Words.{Words}
 use Rattle.matrix.specs.Triples.{redOf, greenOf, blueOf, whole, clipped, beyond, codesAt}
 use Rattle.matrix.specs.Rows.{NominalCodes}
 
-pub record Inside (v : ℤ) (low high : ℕ) : Type 0 where
-  pub nonnegative : T (nonNeg v)
-  pub at-least : low ≤ natAbs v
-  pub at-most : natAbs v ≤ high
-  pub kept : natAbs v ≡ whole v
-
-pub inside : (v : ℤ) (low high : ℕ) → ltZ v (pos low) ≡ false → ltZ (pos high) v ≡ false → Inside v low high
-inside (pos n) low high l h = record { nonnegative = tt; at-least = ltb-false n low l; at-most = ltb-false high n h; kept = refl }
+inside : (v : ℤ) (low high : ℕ) → ltZ v (pos low) ≡ false → ltZ (pos high) v ≡ false → (low ≤ whole v) × (whole v ≤ high)
+inside (pos n) low high l h = (ltb-false n low l, ltb-false high n h)
 inside (negsuc n) low high l h = absurd (subst T l tt)
 
 beyond-at-most-one : (n : Range) (v : ℤ) → beyond n v ≤ 1
@@ -45,7 +39,7 @@ clipped-within n v h = by-tests (ltZ v (pos (n .low))) (ltZ (pos (n .high)) v) r
         (n .low ≤ k) × (k ≤ n .high)
     by-tests true t e f = (le-refl (n .low), h)
     by-tests false true e f = (h, le-refl (n .high))
-    by-tests false false e f = let k = inside v (n .low) (n .high) e f in (omega (arith, k .at-least, k .kept), omega (arith, k .at-most, k .kept))
+    by-tests false false e f = inside v (n .low) (n .high) e f
 
 -- of any words at all
 pub clipped-at-most-three : (x : Matrix) (s : ℕ) (w : Words) → codesAt x s w .count ≤ 3

@@ -5,4 +5,5 @@ pub mod WayThere
 pub mod Fractions
 pub mod Nominal
 pub mod Tested
+pub mod Raised
 pub mod Return

@@ -2,14 +2,15 @@
 -- Definitions only.
 use Prim.Native.Nat.{ℕ, _*_, _-_, _^_, _≤_}
 use mathlib.Core.List.{List, [], _∷_}
-use lib.IntN.{ℤ, pos, negℤ, natAbs, _+ℤ_, _*ℤ_}
+use lib.IntN.{ℤ, pos, negℤ, natAbs, _+ℤ_, _-ℤ_, _*ℤ_}
 use lib.ListN.{getD}
 use Rattle.systems.specs.declared.Matrix.{Matrix}
+use Rattle.systems.specs.declared.Range.{Range}
 use Rattle.systems.specs.Systems.{kr, kg, kb}
 use Rattle.exact.specs.Signed.{Ratio, rounded}
 use Rattle.systems.specs.declared.Codes.{Codes}
 use Rattle.matrix.specs.declared.Words.{Words}
-use Rattle.matrix.specs.Triples.{luma, cbOf, crOf, redOf, greenOf, blueOf}
+use Rattle.matrix.specs.Triples.{luma, cbOf, crOf, whole, redOf, greenOf, blueOf}
 
 -- codes and words that are nominal at the scale s
 pub record NominalCodes (s : ℕ) (c : Codes) : Type 0 where
@@ -70,3 +71,18 @@ pub record Small (row t : List ℤ) : Type 0 where
 -- R, G and B before they are clipped
 unfoldable pub primariesAt : Matrix → ℕ → Words → List ℤ
 primariesAt x s w = rounded (redOf x s w) ∷ rounded (greenOf x s w) ∷ rounded (blueOf x s w) ∷ []
+
+-- a component raised above 0, and taken down again
+abbrev pub raised : ℤ → ℕ
+raised v = whole (v +ℤ pos 8192)
+
+abbrev pub lowered : ℕ → ℤ
+lowered n = pos n -ℤ pos 8192
+
+unfoldable pub raisedAt : Matrix → ℕ → Words → Codes
+raisedAt x s w = record { r = raised (rounded (redOf x s w)); g = raised (rounded (greenOf x s w)); b = raised (rounded (blueOf x s w)) }
+
+-- a range to which raised components can be clipped
+pub record Clippable (n : Range) : Type 0 where
+  pub in-order : n .low ≤ n .high
+  pub small : n .high ≤ 3760

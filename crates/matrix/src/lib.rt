@@ -13,7 +13,7 @@ ghost use lib.Signed.{_<ℤ_};
 ghost use Rattle.exact.specs.Signed.{rounded};
 ghost use Rattle.systems.specs.declared.Matrix.the-variants.{Bt709, Bt2020};
 ghost use Rattle.matrix.specs.Triples.{wordsAt, codesAt, wordsOfCodes, codesOfWords, toldWords, toldCodes, wordsWithin, signed, clipped, beyond};
-ghost use Rattle.matrix.specs.Rows.{NominalCodes, NominalWords, Small, dotted, encodingRows, colourDifference, componentsAt, decodingRows, primariesAt};
+ghost use Rattle.matrix.specs.Rows.{NominalCodes, NominalWords, Small, dotted, encodingRows, colourDifference, componentsAt, decodingRows, primariesAt, raised, lowered, raisedAt, Clippable};
 
 // Y', Cb and Cr words of a sample.
 #[repr(C)]
@@ -47,6 +47,9 @@ const STEPS: i64 = (Range::WHITE - Range::BLACK) as i64;
 
 // Words from one end of a colour difference to the other at 8 bits.
 const DIFFERENCE_STEPS: i64 = (Range::DIFFERENCE_PEAK - Range::BLACK) as i64;
+
+// Added to R, G and B until they are clipped, so that a u16 holds them: none that nominal words give is below -RAISE.
+const RAISE: u16 = 8192;
 
 // The words of a code triple; refused with 1, then 6.
 pub fn words_of_codes(system: u32, codes: Codes) -> Encoded
@@ -96,20 +99,42 @@ pub fn words_2020(s: u16, c: Codes) -> Words
     words_in(Matrix::Bt2020, s, c)
 }
 
-// The words' codes by BT.709's matrix.
-pub fn codes_709(s: u16, w: Words) -> Clipped
-    requires { ⌜ (0 < s) × (s ≤ 16) × NominalWords s w ⌝ }
-    ensures { λ r. ⌜ r ≡ codesAt Bt709 s w ⌝ }
+// The words' R, G and B by BT.709's matrix, raised and not clipped yet.
+pub fn raised_709(s: u16, w: Words) -> Codes
+    requires { ⌜ (s ≤ 16) × NominalWords s w ⌝ }
+    ensures { λ r. ⌜ r ≡ raisedAt Bt709 s w ⌝ }
 {
-    codes_in(Matrix::Bt709, s, w)
+    raised_in(Matrix::Bt709, s, w)
 }
 
-// The words' codes by BT.2020's matrix.
-pub fn codes_2020(s: u16, w: Words) -> Clipped
-    requires { ⌜ (0 < s) × (s ≤ 16) × NominalWords s w ⌝ }
-    ensures { λ r. ⌜ r ≡ codesAt Bt2020 s w ⌝ }
+// The words' R, G and B by BT.2020's matrix.
+pub fn raised_2020(s: u16, w: Words) -> Codes
+    requires { ⌜ (s ≤ 16) × NominalWords s w ⌝ }
+    ensures { λ r. ⌜ r ≡ raisedAt Bt2020 s w ⌝ }
 {
-    codes_in(Matrix::Bt2020, s, w)
+    raised_in(Matrix::Bt2020, s, w)
+}
+
+// The nearer end of the range where a raised component is beyond it.
+pub fn clip(n: Range, v: u16) -> u16
+    requires { ⌜ Clippable n ⌝ }
+    ensures { λ r. ⌜ r ≡ clipped n (lowered v) ⌝ }
+{
+    if v < n.low + RAISE {
+        return n.low;
+    }
+    if n.high + RAISE < v {
+        return n.high;
+    }
+    v - RAISE
+}
+
+// 1 where a raised component is beyond the range. Both tests are made, so that a loop can take several components at a time.
+pub fn beyond(n: Range, v: u16) -> u16
+    requires { ⌜ Clippable n ⌝ }
+    ensures { λ r. ⌜ (r ≡ beyond n (lowered v)) × (r ≤ 1) ⌝ }
+{
+    (v < n.low + RAISE) as u16 + (n.high + RAISE < v) as u16
 }
 
 impl Words {
@@ -177,20 +202,40 @@ fn codes_in(x: Matrix, s: u16, w: Words) -> Clipped
     requires { ⌜ (s ≤ 16) × NominalWords s w ⌝ }
     ensures { λ r. ⌜ r ≡ codesAt x s w ⌝ }
 {
-    let v = primaries(x, s, w);
+    let v = raised_in(x, s, w);
     let n = Range {
         low: Range::BLACK * s,
         high: Range::WHITE * s,
     };
     let codes = Codes {
-        r: clip(n, v[0]),
-        g: clip(n, v[1]),
-        b: clip(n, v[2]),
+        r: clip(n, v.r),
+        g: clip(n, v.g),
+        b: clip(n, v.b),
     };
+    let count = beyond(n, v.r) + beyond(n, v.g) + beyond(n, v.b);
     Clipped {
         codes,
-        count: beyond(n, v[0]) + beyond(n, v[1]) + beyond(n, v[2]),
+        count: count as u32,
     }
+}
+
+fn raised_in(x: Matrix, s: u16, w: Words) -> Codes
+    requires { ⌜ (s ≤ 16) × NominalWords s w ⌝ }
+    ensures { λ r. ⌜ r ≡ raisedAt x s w ⌝ }
+{
+    let v = primaries(x, s, w);
+    Codes {
+        r: raise(v[0]),
+        g: raise(v[1]),
+        b: raise(v[2]),
+    }
+}
+
+fn raise(v: i64) -> u16
+    requires { ⌜ natAbs v ≤ 8192 ⌝ }
+    ensures { λ r. ⌜ r ≡ raised v ⌝ }
+{
+    (v + RAISE as i64) as u16
 }
 
 // R, G and B before they are clipped.
@@ -240,30 +285,4 @@ fn decoding(x: Matrix) -> [[i64; 3]; 3]
         [y * w.kg, 0 - cb * w.kb, 0 - cr * w.kr],
         [y, cb, 0],
     ]
-}
-
-// The nearer end of the range where v is beyond it.
-fn clip(n: Range, v: i64) -> u16
-    ensures { λ r. ⌜ r ≡ clipped n v ⌝ }
-{
-    if v < n.low as i64 {
-        return n.low;
-    }
-    if v > n.high as i64 {
-        return n.high;
-    }
-    v as u16
-}
-
-// 1 where v is beyond the range.
-fn beyond(n: Range, v: i64) -> u32
-    ensures { λ r. ⌜ (r ≡ beyond n v) × (r ≤ 1) ⌝ }
-{
-    if v < n.low as i64 {
-        return 1;
-    }
-    if v > n.high as i64 {
-        return 1;
-    }
-    0
 }

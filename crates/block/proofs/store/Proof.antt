@@ -1,4 +1,3 @@
-use mathlib.Core.Path.{refl}
 use native.Mathlib.Numerals.{add-one, add-two}
 use lib.ListN.{length-set}
 use borrow.Author.Needs.{needs}
@@ -42,7 +41,7 @@ same-length : tie.Need-same-length
 same-length c = search needs
 
 returns : tie.Need-returns
-returns c = (refl, rw (add-one, add-two))
+returns c = rw (add-one, add-two)
 
 pub store-spec : {M : Type 1} → statement M
 store-spec =

@@ -1,39 +1,27 @@
-use mathlib.Core.Path.{_≡_, refl}
-use mathlib.Core.Bool.{Bool, true, false}
 use native.Mathlib.Omega.{arith}
-use lib.Dec.{lit≤}
-use lib.IntN.{pos}
-use lib.Signed.{ltZ}
-use mir.Syntax.{w64}
-use mir.Val.{toZ, ofZ}
-use mir.ValLaws.{toZ-ofZ, toZ-pos}
 use borrow.Author.Needs.{needs}
+use Rattle.matrix.proofs.Raised.{counted}
 use Rattle.matrix.proofs.beyond.Statement.{statement}
 use Rattle.matrix.proofs.beyond.Tie as tie
 
--- what the machine compares
-below : (c : tie.After-struct-known) (t : Bool) → ltZ (toZ w64 (ofZ w64 (c .before .args .v))) (toZ w64 (c .before .args .n .low)) ≡ t → ltZ (c .before .args .v) (pos (c .before .args .n .low)) ≡ t
-below c t e = rw (toZ-ofZ w64 (c .before .args .v) (c .before .fits .v), toZ-pos w64 (c .before .args .n .low) (omega arith)) at e
+add-result : tie.Need-add-result
+add-result c = search needs
 
-above : (c : tie.After-struct-known2) (t : Bool) → ltZ (toZ w64 (c .before .before .before .args .n .high)) (toZ w64 (ofZ w64 (c .before .before .before .args .v))) ≡ t → ltZ (pos (c .before .before .before .args .n .high)) (c .before .before .before .args .v) ≡ t
-above c t e =
-    let s = c .before .before .before in
-    rw (toZ-ofZ w64 (s .args .v) (s .fits .v), toZ-pos w64 (s .args .n .high) (omega arith)) at e
+cast-result : tie.Need-cast-result
+cast-result c = search needs
 
-cast-if1 : tie.Need-cast-if1
-cast-if1 c = search needs
+add-result-2 : tie.Need-add-result-2
+add-result-2 c = search needs
+
+cast-result-2 : tie.Need-cast-result-2
+cast-result-2 c = search needs
+
+add-result-3 : tie.Need-add-result-3
+add-result-3 c = omega (arith, counted (c .before .before .args .n) (c .before .before .args .v) (c .before .before .pre) .1)
 
 returns : tie.Need-returns
-returns c = rw (below (c .before) true (c .if1 .taken)) (refl, lit≤ tt)
-
-cast-if2 : tie.Need-cast-if2
-cast-if2 c = search needs
-
-returns-2 : tie.Need-returns-2
-returns-2 c = rw (below (c .before .before .before) false (c .before .before .if1 .left), above (c .before) true (c .if2 .taken)) (refl, lit≤ tt)
-
-returns-3 : tie.Need-returns-3
-returns-3 c = rw (below (c .before .before .before) false (c .before .before .if1 .left), above (c .before) false (c .if2 .left)) (refl, lit≤ tt)
+returns c = counted (c .before .before .args .n) (c .before .before .args .v) (c .before .before .pre)
 
 pub beyond-spec : {M : Type 1} → statement M
-beyond-spec = tie.close (tie.spec cast-if1 returns cast-if2 returns-2 returns-3)
+beyond-spec =
+    tie.close (tie.spec add-result cast-result add-result-2 cast-result-2 add-result-3 returns)

@@ -1,0 +1,108 @@
+-- R, G and B raised above 0: a u16 holds them, and they are clipped and counted as they would be without.
+-- Assumes nothing.
+use mathlib.Core.Path.{_≡_, refl, sym, ap, _∙_}
+use mathlib.Core.Bool.{Bool, true, false}
+use mathlib.Core.Logic.{_⊎_, inl, inr}
+use Prim.Native.Nat.{ℕ, suc, _+_, _*_, _-_, _≤_, _<_}
+use native.Mathlib.Omega.{arith}
+use lib.Dec.{ltb, lit<}
+use lib.IntN.{ℤ, pos, negsuc, natAbs, subℕ, _+ℤ_}
+use lib.Signed.{ltZ}
+use mir.Val.{boolByte}
+use borrow.Author.Tests.{ltb-true, lt-ltb, le-ltb}
+use Rattle.exact.specs.Signed.{rounded}
+use Rattle.exact.proofs.Order.{below-or-not}
+use Rattle.exact.proofs.Difference.{sub-pos, sub-neg, pos-sub, sub-eq, sub-size}
+use Rattle.exact.proofs.Nearest.{Rounds}
+use Rattle.systems.specs.declared.Codes.{Codes}
+use Rattle.systems.specs.declared.Matrix.{Matrix}
+use Rattle.systems.specs.declared.Matrix.the-variants.{Bt709, Bt2020}
+use Rattle.systems.specs.declared.Range.{Range}
+use Rattle.systems.specs.Systems.{kr, kb}
+use Rattle.matrix.specs.declared.Clipped.{Clipped}
+use Rattle.matrix.specs.declared.Words.{Words}
+use Rattle.matrix.specs.Triples.{whole, redOf, greenOf, blueOf, clipped, beyond, codesAt}
+use Rattle.matrix.specs.Rows.{NominalWords, Clippable, raised, lowered, raisedAt}
+use Rattle.matrix.proofs.Fractions.{primary-rounds, green-rounds}
+
+-- ---- up and down again
+pub raised-is : (z : ℤ) → natAbs z ≤ 8192 → (z +ℤ pos 8192 ≡ pos (raised z)) × (raised z ≤ 16384)
+raised-is (pos a) h = (refl, omega arith)
+raised-is (negsuc a) h = let e = sub-pos 8192 (suc a) h in (rw e refl, rw e (omega arith))
+
+lowered-raised : (z : ℤ) → natAbs z ≤ 8192 → lowered (raised z) ≡ z
+lowered-raised (pos a) h = sub-eq (a + 8192) 8192 a 0 (omega arith) ∙ sym (pos-sub a)
+lowered-raised (negsuc a) h =
+    let q : 8192 - suc (8192 - suc a) ≡ a = omega arith in
+    ap (λ (z : ℤ). lowered (whole z)) (sub-pos 8192 (suc a) h) ∙ sub-neg (8192 - suc a) 8192 (omega arith) ∙ ap negsuc q
+
+-- ---- the tests of a raised component
+low-test : (v low : ℕ) → ltZ (lowered v) (pos low) ≡ ltb v (low + 8192)
+low-test v low = go (below-or-not v 8192) (below-or-not v (low + 8192))
+  where
+    go : (v < 8192) ⊎ (8192 ≤ v) → (v < low + 8192) ⊎ (low + 8192 ≤ v) → ltZ (subℕ v 8192) (pos low) ≡ ltb v (low + 8192)
+    go (inl h) (inl k) = rw (sub-neg v 8192 h, lt-ltb v (low + 8192) k) refl
+    go (inl h) (inr k) = absurd (omega arith)
+    go (inr h) (inl k) = rw (sub-pos v 8192 h, lt-ltb v (low + 8192) k) (lt-ltb (v - 8192) low (omega arith))
+    go (inr h) (inr k) = rw (sub-pos v 8192 h, le-ltb v (low + 8192) k) (le-ltb (v - 8192) low (omega arith))
+
+high-test : (v high : ℕ) → ltZ (pos high) (lowered v) ≡ ltb (high + 8192) v
+high-test v high = go (below-or-not v 8192) (below-or-not (high + 8192) v)
+  where
+    go : (v < 8192) ⊎ (8192 ≤ v) → (high + 8192 < v) ⊎ (v ≤ high + 8192) → ltZ (pos high) (subℕ v 8192) ≡ ltb (high + 8192) v
+    go (inl h) (inl k) = absurd (omega arith)
+    go (inl h) (inr k) = rw (sub-neg v 8192 h, le-ltb (high + 8192) v k) refl
+    go (inr h) (inl k) = rw (sub-pos v 8192 h, lt-ltb (high + 8192) v k) (lt-ltb high (v - 8192) (omega arith))
+    go (inr h) (inr k) = rw (sub-pos v 8192 h, le-ltb (high + 8192) v k) (le-ltb high (v - 8192) (omega arith))
+
+-- clipped and counted by those tests
+module _ (n : Range) (v : ℕ) where
+  pub clipped-by : (l h : Bool) → ltb v (n .low + 8192) ≡ l → ltb (n .high + 8192) v ≡ h
+      → elim l [ true ↦ n .low | false ↦ elim h [ true ↦ n .high | false ↦ whole (lowered v) ] ] ≡ clipped n (lowered v)
+  clipped-by l h p q = sym (λ i. elim ((low-test v (n .low) ∙ p) i) [ true ↦ n .low | false ↦ elim ((high-test v (n .high) ∙ q) i) [ true ↦ n .high | false ↦ whole (lowered v) ] ])
+
+  beyond-by : (l h : Bool) → ltb v (n .low + 8192) ≡ l → ltb (n .high + 8192) v ≡ h → elim l [ true ↦ 1 | false ↦ elim h [ true ↦ 1 | false ↦ 0 ] ] ≡ beyond n (lowered v)
+  beyond-by l h p q = sym (λ i. elim ((low-test v (n .low) ∙ p) i) [ true ↦ 1 | false ↦ elim ((high-test v (n .high) ∙ q) i) [ true ↦ 1 | false ↦ 0 ] ])
+
+  pub counted : Clippable n →
+      let k = boolByte (ltb v (n .low + 8192)) + boolByte (ltb (n .high + 8192) v) in
+      (k ≡ beyond n (lowered v)) × (k ≤ 1)
+  counted c = go (ltb v (n .low + 8192)) (ltb (n .high + 8192) v) refl refl
+    where
+      go : (l h : Bool) → ltb v (n .low + 8192) ≡ l → ltb (n .high + 8192) v ≡ h → (boolByte l + boolByte h ≡ beyond n (lowered v)) × (boolByte l + boolByte h ≤ 1)
+      go true true p q = absurd (omega (arith, c .in-order, ltb-true v (n .low + 8192) p, ltb-true (n .high + 8192) v q))
+      go true false p q = (beyond-by true false p q, omega arith)
+      go false true p q = (beyond-by false true p q, omega arith)
+      go false false p q = (beyond-by false false p q, omega arith)
+
+-- ---- of nominal words
+small : (p n d : ℕ) (v : ℤ) (r : Rounds p n d v) → r .up ≤ r .down + 8192 → r .down ≤ r .up + 8192 → natAbs v ≤ 8192
+small p n d v r h l = rw (r .is) (sub-size (r .up) (r .down) 8192 h l)
+
+pub primaries-small : (x : Matrix) (s : ℕ) (w : Words) → s ≤ 16 → NominalWords s w
+    → (natAbs (rounded (redOf x s w)) ≤ 8192) × (natAbs (rounded (greenOf x s w)) ≤ 8192) × (natAbs (rounded (blueOf x s w)) ≤ 8192)
+primaries-small Bt709 s w S n =
+    let r = primary-rounds (w .y) (w .cr) s (kr Bt709) in
+    let g = green-rounds Bt709 s w (lit< tt) in
+    let b = primary-rounds (w .y) (w .cb) s (kb Bt709) in
+    (small _ _ _ _ r (omega arith) (omega arith), small _ _ _ _ g (omega arith) (omega arith), small _ _ _ _ b (omega arith) (omega arith))
+primaries-small Bt2020 s w S n =
+    let r = primary-rounds (w .y) (w .cr) s (kr Bt2020) in
+    let g = green-rounds Bt2020 s w (lit< tt) in
+    let b = primary-rounds (w .y) (w .cb) s (kb Bt2020) in
+    (small _ _ _ _ r (omega arith) (omega arith), small _ _ _ _ g (omega arith) (omega arith), small _ _ _ _ b (omega arith) (omega arith))
+
+-- a raised triple clipped to 16s to 235s, and the count of those that were
+abbrev pub fromRaised : ℕ → Codes → Clipped
+fromRaised s v =
+    let n : Range = record { low = 16 * s; high = 235 * s } in
+    record {
+      codes = record { r = clipped n (lowered (v .r)); g = clipped n (lowered (v .g)); b = clipped n (lowered (v .b)) };
+      count = beyond n (lowered (v .r)) + beyond n (lowered (v .g)) + beyond n (lowered (v .b));
+    }
+
+pub codes-from-raised : (x : Matrix) (s : ℕ) (w : Words) → s ≤ 16 → NominalWords s w → fromRaised s (raisedAt x s w) ≡ codesAt x s w
+unfolding raisedAt codesAt
+codes-from-raised x s w S n =
+    let p = primaries-small x s w S n in
+    rw (lowered-raised (rounded (redOf x s w)) (p .0), lowered-raised (rounded (greenOf x s w)) (p .1), lowered-raised (rounded (blueOf x s w)) (p .2)) refl

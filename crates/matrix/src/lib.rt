@@ -12,7 +12,7 @@ ghost use lib.ListN.{getD};
 ghost use lib.Signed.{_<ℤ_};
 ghost use Rattle.exact.specs.Signed.{rounded};
 ghost use Rattle.systems.specs.declared.Matrix.the-variants.{Bt709, Bt2020};
-ghost use Rattle.matrix.specs.Triples.{wordsAt, codesAt, wordsOfCodes, codesOfWords, toldWords, toldCodes, wordsWithin, signed, clipped, beyond};
+ghost use Rattle.matrix.specs.Triples.{wordsAt, codesAt, wordsOfCodes, codesOfWords, toldWords, toldCodes, wordsWithin, whole, signed, clipped, beyond};
 ghost use Rattle.matrix.specs.Rows.{NominalCodes, NominalWords, Small, dotted, encodingRows, colourDifference, componentsAt, decodingRows, primariesAt, raised, lowered, raisedAt, Clippable};
 
 // Y', Cb and Cr words of a sample.
@@ -160,42 +160,41 @@ fn words_in(x: Matrix, s: u16, c: Codes) -> Words
 }
 
 // Y', Cb and Cr.
-fn components(x: Matrix, s: u16, c: Codes) -> [i64; 3]
+fn components(x: Matrix, s: u16, c: Codes) -> [u64; 3]
     requires { ⌜ (s ≤ 16) × NominalCodes s c ⌝ }
     ensures { λ r. ⌜ r ≡ componentsAt x s c ⌝ }
 {
+    let w = x.weights();
     let m = encoding(x);
     let t = [c.r as i64, c.g as i64, c.b as i64];
     [
-        exact::int_of(dot(m[0], t), ONE),
-        colour_difference(m[1], t, m[1][2], s),
-        colour_difference(m[2], t, m[2][0], s),
+        exact::int_of_whole(dot(m[0], t) as u64, (DIFFERENCE_STEPS * ONE) as u64),
+        colour_difference(m[1], t, ONE - w.kb, s),
+        colour_difference(m[2], t, ONE - w.kr, s),
     ]
 }
 
-// Cb or Cr, by a row and its entry for the colour that is its own.
-fn colour_difference(row: [i64; 3], triple: [i64; 3], own: i64, s: u16) -> i64
-    requires { ⌜ Small row triple × (pos 0 <ℤ own) × (natAbs own ≤ 10000) × (natAbs (dotted row triple) ≤ 7520 * natAbs own) × (s ≤ 16) ⌝ }
-    ensures { λ r. ⌜ r ≡ rounded (colourDifference (dotted row triple) (natAbs own) s) ⌝ }
+// Cb or Cr, by the row of its colour, where own is what the colour's weight leaves of 10000.
+fn colour_difference(row: [i64; 3], triple: [i64; 3], own: i64, s: u16) -> u64
+    requires { ⌜ Small row triple × (pos 0 <ℤ own) × (natAbs own ≤ 10000) × (s ≤ 16) × (natAbs (dotted row triple) ≤ 128 * s * (219 * 2 * natAbs own)) ⌝ }
+    ensures { λ r. ⌜ r ≡ whole (rounded (colourDifference (dotted row triple) (natAbs own) s)) ⌝ }
 {
     let bottom = STEPS * 2 * own;
     let middle = (Range::MIDDLE * s) as i64;
-    exact::int_of(
-        dot(row, triple) * DIFFERENCE_STEPS + middle * bottom,
-        bottom,
-    )
+    let top = middle * bottom - dot(row, triple);
+    exact::int_of_whole(top as u64, bottom as u64)
 }
 
-// Y', B - Y' and R - Y' of (R, G, B), in ten-thousandths.
+// 224·10000 times Y', Y' - B and Y' - R of (R, G, B): an entry that rows share is multiplied once.
 fn encoding(x: Matrix) -> [[i64; 3]; 3]
     ensures { λ r. ⌜ r ≡ encodingRows x ⌝ }
 {
     let w = x.weights();
-    [
-        [w.kr, w.kg, w.kb],
-        [0 - w.kr, 0 - w.kg, ONE - w.kb],
-        [ONE - w.kr, 0 - w.kg, 0 - w.kb],
-    ]
+    let kr = DIFFERENCE_STEPS * w.kr;
+    let kg = DIFFERENCE_STEPS * w.kg;
+    let kb = DIFFERENCE_STEPS * w.kb;
+    let one = DIFFERENCE_STEPS * ONE;
+    [[kr, kg, kb], [kr, kg, kb - one], [kr - one, kg, kb]]
 }
 
 fn codes_in(x: Matrix, s: u16, w: Words) -> Clipped

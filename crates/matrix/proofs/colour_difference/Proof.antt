@@ -1,14 +1,19 @@
-use mathlib.Core.Path.{_≡_, _∙_}
+use mathlib.Core.Path.{_≡_, sym, ap, _∙_}
 use Prim.Native.Nat.{ℕ, _+_, _*_, _≤_, _<_}
 use native.Mathlib.Nat.{mul-le-mul-right}
 use native.Mathlib.Omega.{arith}
-use lib.IntN.{ℤ, pos, natAbs, _+ℤ_, _*ℤ_}
+use lib.IntN.{ℤ, pos, natAbs, _-ℤ_}
 use mir.Syntax.{w64}
 use mir.Val.{toZ, ofZ}
 use mir.ValLaws.{toZ-ofZ, toZ-pos}
 use borrow.Author.Needs.{needs, sfits-of}
-use Rattle.exact.proofs.Machine.{natAbs-add, natAbs-mul-le, fits-i64, reads-back, positive, is-positive}
-use Rattle.matrix.specs.Rows.{dotted}
+use Rattle.exact.specs.Signed.{rounded}
+use Rattle.exact.specs.Whole.{INT}
+use Rattle.exact.proofs.Difference.{pos-less-small}
+use Rattle.exact.proofs.Machine.{natAbs-less, fits-i64, reads-back, positive}
+use Rattle.exact.proofs.Rounding.{rounded-whole}
+use Rattle.matrix.specs.Triples.{whole}
+use Rattle.matrix.specs.Rows.{dotted, colourDifference}
 use Rattle.matrix.proofs.colour_difference.Statement.{statement}
 use Rattle.matrix.proofs.colour_difference.Tie as tie
 
@@ -21,6 +26,10 @@ module _ (s : tie.Start) where
 
   abbrev middle : ℕ
   middle = 128 * s .args .s * (438 * own)
+
+  -- the numerator, which is not below 0
+  abbrev top : ℕ
+  top = natAbs (pos middle -ℤ product)
 
   own-positive : 0 < own
   own-positive = positive (s .args .own) (s .pre .1) .1
@@ -40,17 +49,17 @@ module _ (s : tie.Start) where
   middle-read : toZ w64 middle ≡ pos middle
   middle-read = toZ-pos w64 middle (omega (arith, middle-small))
 
-  scaled-small : natAbs (product *ℤ pos 224) ≤ 7520 * own * 224
-  scaled-small = natAbs-mul-le product (pos 224) (7520 * own) 224 (s .pre .3) (omega arith)
+  top-is : pos middle -ℤ product ≡ pos top
+  top-is = pos-less-small middle product (s .pre .4)
 
-  scaled-read : toZ w64 (ofZ w64 (product *ℤ pos 224)) ≡ product *ℤ pos 224
-  scaled-read = reads-back (product *ℤ pos 224) (omega (arith, scaled-small))
+  top-small : top ≤ 2 * (2048 * (438 * own))
+  top-small = omega (arith, natAbs-less (pos middle) product, s .pre .4, middle-small)
 
-  top-small : natAbs (product *ℤ pos 224 +ℤ pos middle) ≤ 8192 * (438 * own)
-  top-small = omega (arith, natAbs-add (product *ℤ pos 224) (pos middle), scaled-small, middle-small)
+  top-read : toZ w64 (ofZ w64 (pos middle -ℤ product)) ≡ pos top
+  top-read = reads-back (pos middle -ℤ product) (omega (arith, top-small)) ∙ top-is
 
-  top-read : toZ w64 (ofZ w64 (product *ℤ pos 224 +ℤ pos middle)) ≡ product *ℤ pos 224 +ℤ pos middle
-  top-read = reads-back (product *ℤ pos 224 +ℤ pos middle) (omega (arith, top-small))
+  value : whole (rounded (colourDifference product own (s .args .s))) ≡ INT top (438 * own)
+  value = ap (λ (z : ℤ). whole (rounded record { top = z; bottom = 438 * own })) top-is ∙ ap whole (rounded-whole top (438 * own))
 
 product-read : (c : tie.After-dot) → toZ w64 (ofZ w64 (c .dot .result)) ≡ product (c .before)
 product-read c = toZ-ofZ w64 (c .dot .result) (sfits-of (c .dot .ok)) ∙ c .dot .ensures
@@ -67,34 +76,35 @@ mul-middle c = search needs
 cast-middle : tie.Need-cast-middle
 cast-middle c = search needs
 
+mul-top : tie.Need-mul-top
+mul-top c = rw (own-read c, bottom-read c, code-read c) (fits-i64 (pos (middle c)) (omega (arith, middle-small c)))
+
 dot-requires : tie.Need-dot-requires
 dot-requires c κs = search needs
 
-mul-int-of : tie.Need-mul-int-of
-mul-int-of c = rw (product-read c) (fits-i64 (product (c .before) *ℤ pos 224) (omega (arith, scaled-small (c .before))))
-
-mul-int-of-2 : tie.Need-mul-int-of-2
-mul-int-of-2 c =
+sub-top : tie.Need-sub-top
+sub-top c =
     let s = c .before in
-    rw (own-read s, bottom-read s, code-read s) (fits-i64 (pos (middle s)) (omega (arith, middle-small s)))
+    rw (product-read c, own-read s, bottom-read s, code-read s, middle-read s) (fits-i64 (pos (middle s) -ℤ product s) (omega (arith, top-small s)))
 
-add-int-of : tie.Need-add-int-of
-add-int-of c =
+cast-int-of-whole : tie.Need-cast-int-of-whole
+cast-int-of-whole c =
     let s = c .before in
-    rw (product-read c, scaled-read s, own-read s, bottom-read s, code-read s, middle-read s)
-    (fits-i64 (product s *ℤ pos 224 +ℤ pos (middle s)) (omega (arith, top-small s)))
+    rw (product-read c, own-read s, bottom-read s, code-read s, middle-read s, top-read s) (tt, record { fits = omega (arith, top-small s) })
 
-int-of-requires : tie.Need-int-of-requires
-int-of-requires c κs =
+cast-int-of-whole-2 : tie.Need-cast-int-of-whole-2
+cast-int-of-whole-2 c = rw (own-read (c .before), bottom-read (c .before)) (tt, record { fits = omega arith })
+
+int-of-whole-requires : tie.Need-int-of-whole-requires
+int-of-whole-requires c κs =
     let s = c .before in
-    let p : 0 < 438 * own s = omega (arith, own-positive s) in
-    rw (product-read c, scaled-read s, own-read s, bottom-read s, code-read s, middle-read s, top-read s)
-    (is-positive (438 * own s) p, omega arith, top-small s)
+    rw (product-read c, own-read s, bottom-read s, code-read s, middle-read s, top-read s)
+    (omega (arith, own-positive s), omega arith, omega (arith, top-small s))
 
 returns : tie.Need-returns
 returns c =
     let s = c .before .before in
-    rw (toZ-ofZ w64 (c .int-of .result) (sfits-of (c .int-of .ok)), c .int-of .ensures, product-read (c .before), scaled-read s, own-read s, bottom-read s, code-read s, middle-read s, top-read s)
+    rw (c .int-of-whole .ensures, product-read (c .before), own-read s, bottom-read s, code-read s, middle-read s, top-read s) (sym (value s))
 
 pub colour-difference-spec : {M : Type 1} → statement M
 colour-difference-spec =
@@ -104,9 +114,10 @@ colour-difference-spec =
     mul-bottom-2
     mul-middle
     cast-middle
+    mul-top
     dot-requires
-    mul-int-of
-    mul-int-of-2
-    add-int-of
-    int-of-requires
+    sub-top
+    cast-int-of-whole
+    cast-int-of-whole-2
+    int-of-whole-requires
     returns)

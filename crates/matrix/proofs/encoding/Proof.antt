@@ -14,49 +14,46 @@ row c = row-of (c .before .args .x) (c .weights .result) (c .weights .ensures)
 weights-requires : tie.Need-weights-requires
 weights-requires c κs = search needs
 
-sub-t4 : tie.Need-sub-t4
-sub-t4 c = elim (row (c .before .before .before)) [
+mul-kr : tie.Need-mul-kr
+mul-kr c = elim (row (c .before .before)) [
   | inl e ↦ rw (e .1) record { sfits = lit< tt }
   | inr e ↦ rw (e .1) record { sfits = lit< tt }
 ]
 
-sub-t5 : tie.Need-sub-t5
-sub-t5 c = elim (row (c .before .before .before .before .before)) [
+mul-kg : tie.Need-mul-kg
+mul-kg c = elim (row (c .before .before .before .before)) [
   | inl e ↦ rw (e .1) record { sfits = lit< tt }
   | inr e ↦ rw (e .1) record { sfits = lit< tt }
 ]
 
-sub-t6 : tie.Need-sub-t6
-sub-t6 c = elim (row (c .before .before .before .before .before .before .before)) [
+mul-kb : tie.Need-mul-kb
+mul-kb c = elim (row (c .before .before .before .before .before .before)) [
   | inl e ↦ rw (e .1) record { sfits = lit< tt }
   | inr e ↦ rw (e .1) record { sfits = lit< tt }
 ]
+
+mul-one : tie.Need-mul-one
+mul-one c = search needs
 
 sub-t8 : tie.Need-sub-t8
-sub-t8 c = elim (row (c .before .before .before .before .before .before .before .before .before)) [
-  | inl e ↦ rw (e .1) record { sfits = lit< tt }
-  | inr e ↦ rw (e .1) record { sfits = lit< tt }
-]
-
-sub-t9 : tie.Need-sub-t9
-sub-t9 c = elim (row (c .before .before .before .before .before .before .before .before .before .before .before)) [
+sub-t8 c = elim (row (c .before .before .before .before .before .before)) [
   | inl e ↦ rw (e .1) record { sfits = lit< tt }
   | inr e ↦ rw (e .1) record { sfits = lit< tt }
 ]
 
 sub-t10 : tie.Need-sub-t10
-sub-t10 c = elim (row (c .before .before .before .before .before .before .before .before .before .before .before .before .before)) [
+sub-t10 c = elim (row (c .before .before .before .before .before .before)) [
   | inl e ↦ rw (e .1) record { sfits = lit< tt }
   | inr e ↦ rw (e .1) record { sfits = lit< tt }
 ]
 
 returns : tie.Need-returns
 unfolding encodingRows
-returns c = elim (row (c .before .before .before .before .before .before .before .before .before .before .before .before .before)) [
+returns c = elim (row (c .before .before .before .before .before .before)) [
   | inl e ↦ rw (e .0, e .1) refl
   | inr e ↦ rw (e .0, e .1) refl
 ]
 
 pub encoding-spec : {M : Type 1} → statement M
 encoding-spec =
-    tie.close (tie.spec weights-requires sub-t4 sub-t5 sub-t6 sub-t8 sub-t9 sub-t10 returns)
+    tie.close (tie.spec weights-requires mul-kr mul-kg mul-kb mul-one sub-t8 sub-t10 returns)

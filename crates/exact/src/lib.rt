@@ -1,5 +1,5 @@
-// Exact whole-number arithmetic: the rounding of document 01, 'Four systems', on i64, and the definitions and laws that
-// every stage above shares.
+// Exact whole-number arithmetic: the rounding of document 01, 'Four systems', and the definitions and laws that every
+// stage above shares.
 ghost use mathlib.Core.Path.{_≡_};
 ghost use Prim.Native.Nat.{_+_, _*_, _%_, _^_, _≤_, _<_};
 ghost use lib.IntN.{pos, natAbs};

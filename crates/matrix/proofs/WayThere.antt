@@ -1,6 +1,6 @@
 -- The rows of the way from codes to words, by (R, G, B), are document 01's fractions; and an i64 holds what they come to.
 -- Assumes nothing.
-use mathlib.Core.Path.{_≡_, refl, sym, ap, _∙_}
+use mathlib.Core.Path.{_≡_, sym, ap, _∙_}
 use mathlib.Core.List.{List, [], _∷_}
 use Prim.Native.Nat.{ℕ, _+_, _*_, _-_, _^_, _≤_, _<_}
 use native.Mathlib.Omega.{arith}
@@ -86,9 +86,11 @@ pub rows-give-components : (x : Matrix) (s : ℕ) (c : Codes) →
     ∷ []) ≡ componentsAt x s c
 unfolding componentsAt
 rows-give-components x s c =
+    let b = 438 * (10000 - kb x) in
+    let r = 438 * (10000 - kr x) in
     λ i. (int-of-multiple 224 (weighted x c) 10000 (lit< tt) ∙ ap whole (sym (rounded-whole (weighted x c) 10000))) i
-    ∷ whole (rounded record { top = (ap (λ (z : ℤ). pos (128 * s * (438 * (10000 - kb x))) -ℤ z) (blue-row x c) ∙ top-is x c (c .b) (128 * s * (438 * (10000 - kb x)))) i; bottom = 438 * (10000 - kb x) })
-    ∷ whole (rounded record { top = (ap (λ (z : ℤ). pos (128 * s * (438 * (10000 - kr x))) -ℤ z) (red-row x c) ∙ top-is x c (c .r) (128 * s * (438 * (10000 - kr x)))) i; bottom = 438 * (10000 - kr x) })
+    ∷ whole (rounded record { top = (ap (λ (z : ℤ). pos (128 * s * b) -ℤ z) (blue-row x c) ∙ top-is x c (c .b) (128 * s * b)) i; bottom = b })
+    ∷ whole (rounded record { top = (ap (λ (z : ℤ). pos (128 * s * r) -ℤ z) (red-row x c) ∙ top-is x c (c .r) (128 * s * r)) i; bottom = r })
     ∷ []
 
 -- ---- size
@@ -98,14 +100,7 @@ Ready r t own s = Small r t × (pos 0 <ℤ pos own) × (own ≤ 10000) × (s ≤
 
 module _ (s : ℕ) (c : Codes) (S : s ≤ 16) (n : NominalCodes s c) where
   small : (a b d : ℤ) → natAbs a ≤ 2240000 → natAbs b ≤ 2240000 → natAbs d ≤ 2240000 → Small (a ∷ b ∷ d ∷ []) (triple c)
-  small a b d ha hb hd = record {
-    row-0 = omega arith;
-    row-1 = omega arith;
-    row-2 = omega arith;
-    triple-0 = omega (arith, n .r-high);
-    triple-1 = omega (arith, n .g-high);
-    triple-2 = omega (arith, n .b-high);
-  }
+  small a b d ha hb hd = record { row-0 = omega arith; row-1 = omega arith; row-2 = omega arith; triple-0 = omega (arith, n); triple-1 = omega (arith, n); triple-2 = omega (arith, n) }
 
   rows-small : (x : Matrix) → Small (row x 0) (triple c) × Small (row x 1) (triple c) × Small (row x 2) (triple c)
   unfolding encodingRows
@@ -113,11 +108,11 @@ module _ (s : ℕ) (c : Codes) (S : s ≤ 16) (n : NominalCodes s c) where
   rows-small Bt2020 = (small _ _ _ (lit≤ tt) (lit≤ tt) (lit≤ tt), small _ _ _ (lit≤ tt) (lit≤ tt) (lit≤ tt), small _ _ _ (lit≤ tt) (lit≤ tt) (lit≤ tt))
 
   pub luma-ready : (x : Matrix) → Small (row x 0) (triple c) × (224 * weighted x c < 2 ^ 40)
-  luma-ready Bt709 = (rows-small Bt709 .0, omega (arith, n .r-high, n .g-high, n .b-high))
-  luma-ready Bt2020 = (rows-small Bt2020 .0, omega (arith, n .r-high, n .g-high, n .b-high))
+  luma-ready Bt709 = (rows-small Bt709 .0, omega (arith, n))
+  luma-ready Bt2020 = (rows-small Bt2020 .0, omega (arith, n))
 
   apart : (x : Matrix) (v k : ℕ) → 224 * weighted x c ≤ 224 * 10000 * v + k → 224 * 10000 * v ≤ 224 * weighted x c + k → natAbs (above x c v) ≤ k
-  apart x v k l h = sub-size (224 * weighted x c) (224 * 10000 * v) k l h
+  apart x v k = sub-size (224 * weighted x c) (224 * 10000 * v) k
 
   pub blue-ready : (x : Matrix) → Ready (row x 1) (triple c) (10000 - kb x) s
   blue-ready Bt709 = (rows-small Bt709 .1, record { lt = tt }, lit≤ tt, S, rw (blue-row Bt709 c) (apart Bt709 (c .b) _ (omega (arith, n)) (omega (arith, n))))

@@ -12,12 +12,13 @@ use mir.ValLaws.{toZ-ofZ, toZ-pos}
 use borrow.Author.Needs.{needs, sfits-of}
 use Rattle.exact.specs.Signed.{rounded}
 use Rattle.exact.specs.Whole.{INT}
+use Rattle.systems.specs.declared.Matrix.{Matrix}
 use Rattle.systems.specs.declared.Matrix.the-variants.{Bt709, Bt2020}
 use Rattle.systems.specs.Systems.{kr, kb}
 use Rattle.matrix.specs.Rows.{Small, dotted, colourDifference}
 use Rattle.matrix.specs.Triples.{weighted, whole}
 use Rattle.matrix.proofs.Weights.{Row, row-of}
-use Rattle.matrix.proofs.WayThere.{row, triple, luma-row, luma-ready, blue-ready, red-ready, rows-give-components}
+use Rattle.matrix.proofs.WayThere.{Ready, row, triple, luma-row, luma-ready, blue-ready, red-ready, rows-give-components}
 use Rattle.matrix.proofs.components.Statement.{statement}
 use Rattle.matrix.proofs.components.Tie as tie
 
@@ -33,6 +34,12 @@ module _ (s : tie.Start) where
 
   luma : Small (row (s .args .x) 0) (triple (s .args .c)) × (224 * weighted (s .args .x) (s .args .c) < 2 ^ 40)
   luma = luma-ready (s .args .s) (s .args .c) (s .pre .0) (s .pre .1) (s .args .x)
+
+  blue : (x : Matrix) → Ready (row x 1) (triple (s .args .c)) (10000 - kb x) (s .args .s)
+  blue = blue-ready (s .args .s) (s .args .c) (s .pre .0) (s .pre .1)
+
+  red : (x : Matrix) → Ready (row x 2) (triple (s .args .c)) (10000 - kr x) (s .args .s)
+  red = red-ready (s .args .s) (s .args .c) (s .pre .0) (s .pre .1)
 
 weights : (c : tie.After-weights) → Row Bt709 (c .before .args .x) (c .weights .result) ⊎ Row Bt2020 (c .before .args .x) (c .weights .result)
 weights c = row-of (c .before .args .x) (c .weights .result) (c .weights .ensures)
@@ -99,8 +106,8 @@ colour-difference-requires c κs =
     let m = c .before .before .before .before .before .before .before .before .before in
     let s = m .before .before in
     elim (weights (m .before)) [
-      | inl e ↦ rw (m .encoding .ensures, e .0, e .1, r-read s, g-read s, b-read s) (blue-ready (s .args .s) (s .args .c) (s .pre .0) (s .pre .1) Bt709)
-      | inr e ↦ rw (m .encoding .ensures, e .0, e .1, r-read s, g-read s, b-read s) (blue-ready (s .args .s) (s .args .c) (s .pre .0) (s .pre .1) Bt2020)
+      | inl e ↦ rw (m .encoding .ensures, e .0, e .1, r-read s, g-read s, b-read s) (blue s Bt709)
+      | inr e ↦ rw (m .encoding .ensures, e .0, e .1, r-read s, g-read s, b-read s) (blue s Bt2020)
     ]
 
 array-copy-out-colour-difference-2 : tie.Need-array-copy-out-colour-difference-2
@@ -117,8 +124,8 @@ colour-difference-requires-2 c κs =
     let m = c .before .before .before .before .before .before .before .before .before .before .before .before .before in
     let s = m .before .before in
     elim (weights (m .before)) [
-      | inl e ↦ rw (m .encoding .ensures, e .0, e .1, r-read s, g-read s, b-read s) (red-ready (s .args .s) (s .args .c) (s .pre .0) (s .pre .1) Bt709)
-      | inr e ↦ rw (m .encoding .ensures, e .0, e .1, r-read s, g-read s, b-read s) (red-ready (s .args .s) (s .args .c) (s .pre .0) (s .pre .1) Bt2020)
+      | inl e ↦ rw (m .encoding .ensures, e .0, e .1, r-read s, g-read s, b-read s) (red s Bt709)
+      | inr e ↦ rw (m .encoding .ensures, e .0, e .1, r-read s, g-read s, b-read s) (red s Bt2020)
     ]
 
 luma-word : (c : tie.After-int-of-whole) →

@@ -26,51 +26,51 @@ use Rattle.matrix.specs.Rows.{NominalWords, Clippable, raised, lowered, 
 use Rattle.matrix.proofs.Fractions.{primary-rounds, green-rounds}
 
 -- ---- up and down again
-pub raised-is : (z : ℤ) → natAbs z ≤ 8192 → (z +ℤ pos 8192 ≡ pos (raised z)) × (raised z ≤ 16384)
+pub raised-is : (z : ℤ) → natAbs z ≤ 8192 → (z +ℤ pos 16384 ≡ pos (raised z)) × (raised z ≤ 24576)
 raised-is (pos a) h = (refl, omega arith)
-raised-is (negsuc a) h = let e = sub-pos 8192 (suc a) h in (rw e refl, rw e (omega arith))
+raised-is (negsuc a) h = let e = sub-pos 16384 (suc a) (omega arith) in (rw e refl, rw e (omega arith))
 
 lowered-raised : (z : ℤ) → natAbs z ≤ 8192 → lowered (raised z) ≡ z
-lowered-raised (pos a) h = sub-eq (a + 8192) 8192 a 0 (omega arith) ∙ sym (pos-sub a)
+lowered-raised (pos a) h = sub-eq (a + 16384) 16384 a 0 (omega arith) ∙ sym (pos-sub a)
 lowered-raised (negsuc a) h =
-    let q : 8192 - suc (8192 - suc a) ≡ a = omega arith in
-    ap (λ (z : ℤ). lowered (whole z)) (sub-pos 8192 (suc a) h) ∙ sub-neg (8192 - suc a) 8192 (omega arith) ∙ ap negsuc q
+    let q : 16384 - suc (16384 - suc a) ≡ a = omega arith in
+    ap (λ (z : ℤ). lowered (whole z)) (sub-pos 16384 (suc a) (omega arith)) ∙ sub-neg (16384 - suc a) 16384 (omega arith) ∙ ap negsuc q
 
 -- ---- the tests of a raised component
-low-test : (v low : ℕ) → ltZ (lowered v) (pos low) ≡ ltb v (low + 8192)
-low-test v low = go (below-or-not v 8192) (below-or-not v (low + 8192))
+low-test : (v low : ℕ) → ltZ (lowered v) (pos low) ≡ ltb v (low + 16384)
+low-test v low = go (below-or-not v 16384) (below-or-not v (low + 16384))
   where
-    go : (v < 8192) ⊎ (8192 ≤ v) → (v < low + 8192) ⊎ (low + 8192 ≤ v) → ltZ (subℕ v 8192) (pos low) ≡ ltb v (low + 8192)
-    go (inl h) (inl k) = rw (sub-neg v 8192 h, lt-ltb v (low + 8192) k) refl
+    go : (v < 16384) ⊎ (16384 ≤ v) → (v < low + 16384) ⊎ (low + 16384 ≤ v) → ltZ (subℕ v 16384) (pos low) ≡ ltb v (low + 16384)
+    go (inl h) (inl k) = rw (sub-neg v 16384 h, lt-ltb v (low + 16384) k) refl
     go (inl h) (inr k) = absurd (omega arith)
-    go (inr h) (inl k) = rw (sub-pos v 8192 h, lt-ltb v (low + 8192) k) (lt-ltb (v - 8192) low (omega arith))
-    go (inr h) (inr k) = rw (sub-pos v 8192 h, le-ltb v (low + 8192) k) (le-ltb (v - 8192) low (omega arith))
+    go (inr h) (inl k) = rw (sub-pos v 16384 h, lt-ltb v (low + 16384) k) (lt-ltb (v - 16384) low (omega arith))
+    go (inr h) (inr k) = rw (sub-pos v 16384 h, le-ltb v (low + 16384) k) (le-ltb (v - 16384) low (omega arith))
 
-high-test : (v high : ℕ) → ltZ (pos high) (lowered v) ≡ ltb (high + 8192) v
-high-test v high = go (below-or-not v 8192) (below-or-not (high + 8192) v)
+high-test : (v high : ℕ) → ltZ (pos high) (lowered v) ≡ ltb (high + 16384) v
+high-test v high = go (below-or-not v 16384) (below-or-not (high + 16384) v)
   where
-    go : (v < 8192) ⊎ (8192 ≤ v) → (high + 8192 < v) ⊎ (v ≤ high + 8192) → ltZ (pos high) (subℕ v 8192) ≡ ltb (high + 8192) v
+    go : (v < 16384) ⊎ (16384 ≤ v) → (high + 16384 < v) ⊎ (v ≤ high + 16384) → ltZ (pos high) (subℕ v 16384) ≡ ltb (high + 16384) v
     go (inl h) (inl k) = absurd (omega arith)
-    go (inl h) (inr k) = rw (sub-neg v 8192 h, le-ltb (high + 8192) v k) refl
-    go (inr h) (inl k) = rw (sub-pos v 8192 h, lt-ltb (high + 8192) v k) (lt-ltb high (v - 8192) (omega arith))
-    go (inr h) (inr k) = rw (sub-pos v 8192 h, le-ltb (high + 8192) v k) (le-ltb high (v - 8192) (omega arith))
+    go (inl h) (inr k) = rw (sub-neg v 16384 h, le-ltb (high + 16384) v k) refl
+    go (inr h) (inl k) = rw (sub-pos v 16384 h, lt-ltb (high + 16384) v k) (lt-ltb high (v - 16384) (omega arith))
+    go (inr h) (inr k) = rw (sub-pos v 16384 h, le-ltb (high + 16384) v k) (le-ltb high (v - 16384) (omega arith))
 
 -- clipped and counted by those tests
 module _ (n : Range) (v : ℕ) where
-  pub clipped-by : (l h : Bool) → ltb v (n .low + 8192) ≡ l → ltb (n .high + 8192) v ≡ h
+  pub clipped-by : (l h : Bool) → ltb v (n .low + 16384) ≡ l → ltb (n .high + 16384) v ≡ h
       → elim l [ true ↦ n .low | false ↦ elim h [ true ↦ n .high | false ↦ whole (lowered v) ] ] ≡ clipped n (lowered v)
   clipped-by l h p q = sym (λ i. elim ((low-test v (n .low) ∙ p) i) [ true ↦ n .low | false ↦ elim ((high-test v (n .high) ∙ q) i) [ true ↦ n .high | false ↦ whole (lowered v) ] ])
 
-  beyond-by : (l h : Bool) → ltb v (n .low + 8192) ≡ l → ltb (n .high + 8192) v ≡ h → elim l [ true ↦ 1 | false ↦ elim h [ true ↦ 1 | false ↦ 0 ] ] ≡ beyond n (lowered v)
+  beyond-by : (l h : Bool) → ltb v (n .low + 16384) ≡ l → ltb (n .high + 16384) v ≡ h → elim l [ true ↦ 1 | false ↦ elim h [ true ↦ 1 | false ↦ 0 ] ] ≡ beyond n (lowered v)
   beyond-by l h p q = sym (λ i. elim ((low-test v (n .low) ∙ p) i) [ true ↦ 1 | false ↦ elim ((high-test v (n .high) ∙ q) i) [ true ↦ 1 | false ↦ 0 ] ])
 
   pub counted : Clippable n →
-      let k = boolByte (ltb v (n .low + 8192)) + boolByte (ltb (n .high + 8192) v) in
+      let k = boolByte (ltb v (n .low + 16384)) + boolByte (ltb (n .high + 16384) v) in
       (k ≡ beyond n (lowered v)) × (k ≤ 1)
-  counted c = go (ltb v (n .low + 8192)) (ltb (n .high + 8192) v) refl refl
+  counted c = go (ltb v (n .low + 16384)) (ltb (n .high + 16384) v) refl refl
     where
-      go : (l h : Bool) → ltb v (n .low + 8192) ≡ l → ltb (n .high + 8192) v ≡ h → (boolByte l + boolByte h ≡ beyond n (lowered v)) × (boolByte l + boolByte h ≤ 1)
-      go true true p q = absurd (omega (arith, c .in-order, ltb-true v (n .low + 8192) p, ltb-true (n .high + 8192) v q))
+      go : (l h : Bool) → ltb v (n .low + 16384) ≡ l → ltb (n .high + 16384) v ≡ h → (boolByte l + boolByte h ≡ beyond n (lowered v)) × (boolByte l + boolByte h ≤ 1)
+      go true true p q = absurd (omega (arith, c .in-order, ltb-true v (n .low + 16384) p, ltb-true (n .high + 16384) v q))
       go true false p q = (beyond-by true false p q, omega arith)
       go false true p q = (beyond-by false true p q, omega arith)
       go false false p q = (beyond-by false false p q, omega arith)

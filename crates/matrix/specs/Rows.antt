@@ -74,10 +74,10 @@ primariesAt x s w = rounded (redOf x s w) ∷ rounded (greenOf x s w) ∷ rounde
 
 -- a component raised above 0, and taken down again
 abbrev pub raised : ℤ → ℕ
-raised v = whole (v +ℤ pos 8192)
+raised v = whole (v +ℤ pos 16384)
 
 abbrev pub lowered : ℕ → ℤ
-lowered n = pos n -ℤ pos 8192
+lowered n = pos n -ℤ pos 16384
 
 unfoldable pub raisedAt : Matrix → ℕ → Words → Codes
 raisedAt x s w = record { r = raised (rounded (redOf x s w)); g = raised (rounded (greenOf x s w)); b = raised (rounded (blueOf x s w)) }

@@ -48,8 +48,9 @@ const STEPS: i64 = (Range::WHITE - Range::BLACK) as i64;
 // Words from one end of a colour difference to the other at 8 bits.
 const DIFFERENCE_STEPS: i64 = (Range::DIFFERENCE_PEAK - Range::BLACK) as i64;
 
-// Added to R, G and B until they are clipped, so that a u16 holds them: none that nominal words give is below -RAISE.
-const RAISE: u16 = 8192;
+// Added to R, G and B until they are clipped, so that a u16 holds them: none that nominal words give is below -RAISE. It is what
+// exact::int_of takes off its quotient, so the two cancel.
+const RAISE: u16 = 16384;
 
 // The words of a code triple; refused with 1, then 6.
 pub fn words_of_codes(system: u32, codes: Codes) -> Encoded

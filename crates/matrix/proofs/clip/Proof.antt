@@ -27,7 +27,7 @@ sub-result c = search needs
 returns-3 : tie.Need-returns-3
 returns-3 c =
     let a = c .before .before .before .before .args in
-    ap whole (sym (sub-pos (a .v) 8192 (omega arith)))
+    ap whole (sym (sub-pos (a .v) 16384 (omega arith)))
     ∙ clipped-by (a .n) (a .v) false false (le-ltb _ _ (c .before .before .if1 .left)) (le-ltb _ _ (c .if2 .left))
 
 pub clip-spec : {M : Type 1} → statement M

@@ -15,17 +15,17 @@ module _ (c : tie.Start) where
   v-read : toZ w64 (ofZ w64 (c .args .v)) ≡ c .args .v
   v-read = reads-back (c .args .v) (omega arith)
 
-  size : natAbs (c .args .v +ℤ pos 8192) ≤ 16384
-  size = omega (arith, natAbs-add (c .args .v) (pos 8192))
+  size : natAbs (c .args .v +ℤ pos 16384) ≤ 24576
+  size = omega (arith, natAbs-add (c .args .v) (pos 16384))
 
-  sum-read : toZ w64 (ofZ w64 (c .args .v +ℤ pos 8192)) ≡ pos (raised (c .args .v))
-  sum-read = reads-back (c .args .v +ℤ pos 8192) (omega (arith, size)) ∙ raised-is (c .args .v) (c .pre) .0
+  sum-read : toZ w64 (ofZ w64 (c .args .v +ℤ pos 16384)) ≡ pos (raised (c .args .v))
+  sum-read = reads-back (c .args .v +ℤ pos 16384) (omega (arith, size)) ∙ raised-is (c .args .v) (c .pre) .0
 
 cast-result : tie.Need-cast-result
 cast-result c = search needs
 
 add-result : tie.Need-add-result
-add-result c = rw (v-read c) (fits-i64 (c .args .v +ℤ pos 8192) (omega (arith, size c)))
+add-result c = rw (v-read c) (fits-i64 (c .args .v +ℤ pos 16384) (omega (arith, size c)))
 
 cast-result-2 : tie.Need-cast-result-2
 cast-result-2 c = rw (v-read c, sum-read c) (tt, record { fits = omega (arith, raised-is (c .args .v) (c .pre) .1) })

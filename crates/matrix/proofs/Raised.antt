@@ -1,6 +1,6 @@
 -- R, G and B raised above 0: a u16 holds them, and they are clipped and counted as they would be without.
 -- Assumes nothing.
-use mathlib.Core.Path.{_≡_, refl, sym, ap, _∙_}
+use mathlib.Core.Path.{_≡_, refl, sym, ap, subst, _∙_}
 use mathlib.Core.Bool.{Bool, true, false}
 use mathlib.Core.Logic.{_⊎_, inl, inr}
 use Prim.Native.Nat.{ℕ, suc, _+_, _*_, _-_, _≤_, _<_}
@@ -9,7 +9,7 @@ use lib.Dec.{ltb, lit<}
 use lib.IntN.{ℤ, pos, negsuc, natAbs, subℕ, _+ℤ_}
 use lib.Signed.{ltZ}
 use mir.Val.{boolByte}
-use borrow.Author.Tests.{ltb-true, lt-ltb, le-ltb}
+use borrow.Author.Tests.{ltb-true, ltb-false, lt-ltb, le-ltb}
 use Rattle.exact.specs.Signed.{rounded}
 use Rattle.exact.proofs.Order.{below-or-not}
 use Rattle.exact.proofs.Difference.{sub-pos, sub-neg, pos-sub, sub-eq, sub-size}
@@ -22,7 +22,7 @@ use Rattle.systems.specs.Systems.{kr, kb}
 use Rattle.matrix.specs.declared.Clipped.{Clipped}
 use Rattle.matrix.specs.declared.Words.{Words}
 use Rattle.matrix.specs.Triples.{whole, redOf, greenOf, blueOf, clipped, beyond, codesAt}
-use Rattle.matrix.specs.Rows.{NominalWords, Clippable, raised, lowered, raisedAt}
+use Rattle.matrix.specs.Rows.{NominalWords, Clippable, raised, lowered, raisedAt, oneOf, atLeast, atMost}
 use Rattle.matrix.proofs.Fractions.{primary-rounds, green-rounds}
 
 -- ---- up and down again
@@ -57,9 +57,28 @@ high-test v high = go (below-or-not v 16384) (below-or-not (high + 16384) v)
 
 -- clipped and counted by those tests
 module _ (n : Range) (v : ℕ) where
-  pub clipped-by : (l h : Bool) → ltb v (n .low + 16384) ≡ l → ltb (n .high + 16384) v ≡ h
+  clipped-by : (l h : Bool) → ltb v (n .low + 16384) ≡ l → ltb (n .high + 16384) v ≡ h
       → elim l [ true ↦ n .low | false ↦ elim h [ true ↦ n .high | false ↦ whole (lowered v) ] ] ≡ clipped n (lowered v)
   clipped-by l h p q = sym (λ i. elim ((low-test v (n .low) ∙ p) i) [ true ↦ n .low | false ↦ elim ((high-test v (n .high) ∙ q) i) [ true ↦ n .high | false ↦ whole (lowered v) ] ])
+
+  -- held between the raised ends and taken down again
+  pub held : Clippable n → let k = atMost (atLeast v (n .low + 16384)) (n .high + 16384) in (16384 ≤ k) × (k - 16384 ≡ clipped n (lowered v))
+  held c = go (ltb v (n .low + 16384)) (ltb (n .high + 16384) v) refl refl
+    where
+      Held : ℕ → Type 0
+      Held k = (16384 ≤ k) × (k - 16384 ≡ clipped n (lowered v))
+
+      go : (l h : Bool) → ltb v (n .low + 16384) ≡ l → ltb (n .high + 16384) v ≡ h → Held (atMost (oneOf l (n .low + 16384) v) (n .high + 16384))
+      go true h p q =
+          let low : n .low + 16384 - 16384 ≡ n .low = omega arith in
+          let end = le-ltb (n .high + 16384) (n .low + 16384) (omega (arith, c .in-order)) in
+          subst (λ (b : Bool). Held (oneOf b (n .high + 16384) (n .low + 16384))) (sym end) (omega arith, low ∙ clipped-by true h p q)
+      go false true p q =
+          let high : n .high + 16384 - 16384 ≡ n .high = omega arith in
+          subst (λ (b : Bool). Held (oneOf b (n .high + 16384) v)) (sym q) (omega arith, high ∙ clipped-by false true p q)
+      go false false p q =
+          let above = ltb-false v (n .low + 16384) p in
+          subst (λ (b : Bool). Held (oneOf b (n .high + 16384) v)) (sym q) (omega arith, ap whole (sym (sub-pos v 16384 (omega arith))) ∙ clipped-by false false p q)
 
   beyond-by : (l h : Bool) → ltb v (n .low + 16384) ≡ l → ltb (n .high + 16384) v ≡ h → elim l [ true ↦ 1 | false ↦ elim h [ true ↦ 1 | false ↦ 0 ] ] ≡ beyond n (lowered v)
   beyond-by l h p q = sym (λ i. elim ((low-test v (n .low) ∙ p) i) [ true ↦ 1 | false ↦ elim ((high-test v (n .high) ∙ q) i) [ true ↦ 1 | false ↦ 0 ] ])

@@ -2,6 +2,8 @@
 -- Definitions only.
 use Prim.Native.Nat.{ℕ, _*_, _-_, _^_, _≤_}
 use mathlib.Core.List.{List, [], _∷_}
+use mathlib.Core.Bool.{Bool, true, false}
+use lib.Dec.{ltb}
 use lib.IntN.{ℤ, pos, negℤ, natAbs, _+ℤ_, _-ℤ_, _*ℤ_}
 use lib.ListN.{getD}
 use Rattle.systems.specs.declared.Matrix.{Matrix}
@@ -86,3 +88,14 @@ raisedAt x s w = record { r = raised (rounded (redOf x s w)); g = raised (rounde
 pub record Clippable (n : Range) : Type 0 where
   pub in-order : n .low ≤ n .high
   pub small : n .high ≤ 3760
+
+-- a number, or the end that it is beyond
+abbrev pub oneOf : Bool → ℕ → ℕ → ℕ
+oneOf true end v = end
+oneOf false end v = v
+
+abbrev pub atLeast : ℕ → ℕ → ℕ
+atLeast v low = oneOf (ltb v low) low v
+
+abbrev pub atMost : ℕ → ℕ → ℕ
+atMost v high = oneOf (ltb high v) high v

@@ -13,7 +13,7 @@ ghost use lib.Signed.{_<ℤ_};
 ghost use Rattle.exact.specs.Signed.{rounded};
 ghost use Rattle.systems.specs.declared.Matrix.the-variants.{Bt709, Bt2020};
 ghost use Rattle.matrix.specs.Triples.{wordsAt, codesAt, wordsOfCodes, codesOfWords, toldWords, toldCodes, wordsWithin, whole, signed, clipped, beyond};
-ghost use Rattle.matrix.specs.Rows.{NominalCodes, NominalWords, Small, dotted, encodingRows, colourDifference, componentsAt, decodingRows, primariesAt, raised, lowered, raisedAt, Clippable};
+ghost use Rattle.matrix.specs.Rows.{NominalCodes, NominalWords, Small, dotted, encodingRows, colourDifference, componentsAt, decodingRows, primariesAt, raised, lowered, raisedAt, Clippable, atLeast, atMost};
 
 // Y', Cb and Cr words of a sample.
 #[repr(C)]
@@ -121,13 +121,19 @@ pub fn clip(n: Range, v: u16) -> u16
     requires { ⌜ Clippable n ⌝ }
     ensures { λ r. ⌜ r ≡ clipped n (lowered v) ⌝ }
 {
-    if v < n.low + RAISE {
-        return n.low;
-    }
-    if n.high + RAISE < v {
-        return n.high;
-    }
-    v - RAISE
+    at_most(at_least(v, n.low + RAISE), n.high + RAISE) - RAISE
+}
+
+fn at_least(v: u16, low: u16) -> u16
+    ensures { λ r. ⌜ r ≡ atLeast v low ⌝ }
+{
+    if v < low { low } else { v }
+}
+
+fn at_most(v: u16, high: u16) -> u16
+    ensures { λ r. ⌜ r ≡ atMost v high ⌝ }
+{
+    if high < v { high } else { v }
 }
 
 // 1 where a raised component is beyond the range. Both tests are made, so that a loop can take several components at a time.

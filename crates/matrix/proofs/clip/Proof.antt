@@ -1,34 +1,29 @@
-use mathlib.Core.Path.{refl, sym, ap, _∙_}
-use mathlib.Core.Bool.{true, false}
-use native.Mathlib.Omega.{arith}
-use borrow.Author.Tests.{lt-ltb, le-ltb}
 use borrow.Author.Needs.{needs}
-use Rattle.exact.proofs.Difference.{sub-pos}
-use Rattle.matrix.specs.Triples.{whole}
-use Rattle.matrix.proofs.Raised.{clipped-by}
+use Rattle.matrix.proofs.Raised.{held}
 use Rattle.matrix.proofs.clip.Statement.{statement}
 use Rattle.matrix.proofs.clip.Tie as tie
 
-add-if1 : tie.Need-add-if1
-add-if1 c = search needs
+add-at-least : tie.Need-add-at-least
+add-at-least c = search needs
 
-returns : tie.Need-returns
-returns c = clipped-by _ _ true _ (lt-ltb _ _ (c .if1 .taken)) refl
+at-least-requires : tie.Need-at-least-requires
+at-least-requires c κs = search needs
 
-add-if2 : tie.Need-add-if2
-add-if2 c = search needs
+add-at-most : tie.Need-add-at-most
+add-at-most c = search needs
 
-returns-2 : tie.Need-returns-2
-returns-2 c = clipped-by _ _ false true (le-ltb _ _ (c .before .before .if1 .left)) (lt-ltb _ _ (c .if2 .taken))
+at-most-requires : tie.Need-at-most-requires
+at-most-requires c κs = search needs
 
 sub-result : tie.Need-sub-result
-sub-result c = search needs
+sub-result c =
+    let start = c .before .before .before .before in
+    rw (c .at-most .ensures, c .before .before .at-least .ensures) (held (start .args .n) (start .args .v) (start .pre) .0)
 
-returns-3 : tie.Need-returns-3
-returns-3 c =
-    let a = c .before .before .before .before .args in
-    ap whole (sym (sub-pos (a .v) 16384 (omega arith)))
-    ∙ clipped-by (a .n) (a .v) false false (le-ltb _ _ (c .before .before .if1 .left)) (le-ltb _ _ (c .if2 .left))
+returns : tie.Need-returns
+returns c =
+    let start = c .before .before .before .before in
+    rw (c .at-most .ensures, c .before .before .at-least .ensures) (held (start .args .n) (start .args .v) (start .pre) .1)
 
 pub clip-spec : {M : Type 1} → statement M
-clip-spec = tie.close (tie.spec add-if1 returns add-if2 returns-2 sub-result returns-3)
+clip-spec = tie.close (tie.spec add-at-least at-least-requires add-at-most at-most-requires sub-result returns)

@@ -104,8 +104,3 @@ sub-le a b c d h = by-order (below-or-not a b) (below-or-not c d)
     by-order (inl k) (inr l) = rw (sub-neg a b k, sub-pos c d l) record { le = tt }
     by-order (inr k) (inl l) = absurd (omega arith)
     by-order (inr k) (inr l) = rw (sub-pos a b k, sub-pos c d l) record { le = le→leb (a - b) (c - d) (omega arith) }
-
--- a natural less a number that is no larger is one
-pub pos-less-small : (n : ℕ) (z : ℤ) → natAbs z ≤ n → pos n -ℤ z ≡ pos (natAbs (pos n -ℤ z))
-pos-less-small n (pos k) h = let e = pos-less n k ∙ sub-pos n k h in e ∙ ap (λ (z : ℤ). pos (natAbs z)) (sym e)
-pos-less-small n (negsuc k) h = refl

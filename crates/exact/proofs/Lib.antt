@@ -8,3 +8,4 @@ pub mod Machine
 pub mod Difference
 pub mod Lift
 pub mod Nearest
+pub mod Scaled

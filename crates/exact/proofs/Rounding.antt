@@ -1,9 +1,9 @@
 -- INT is what document 01 says it is: d is at most INT(x/y) exactly when d is at most x/y + 1/2.
 -- Assumes nothing.
 use mathlib.Core.Logic.{_↔_}
-use mathlib.Core.Path.{_≡_, refl, sym, ap, _∙_}
+use mathlib.Core.Path.{_≡_, refl, ap, _∙_}
 use Prim.Native.Nat.{ℕ, _+_, _*_, _/_, _%_, _≤_, _<_}
-use native.Mathlib.Nat.{le-div-iff-mul-le, le-refl, mul-add, mul-left-comm, mul-div-mul-left}
+use native.Mathlib.Nat.{le-div-iff-mul-le, le-refl, mul-div-mul-left}
 use native.Mathlib.Omega.{arith}
 use lib.Dec.{lit<}
 use lib.IntN.{pos}
@@ -23,13 +23,6 @@ unfolding INT
 int-over-even x y e =
     let d : 2 * x + y ≡ 2 * (x + y / 2) = omega arith in
     ap (λ (n : ℕ). n / (2 * y)) d ∙ mul-div-mul-left (x + y / 2) y (lit< tt)
-
--- a factor of both leaves INT as it is
-pub int-of-multiple : (k x y : ℕ) → 0 < k → INT (k * x) (k * y) ≡ INT x y
-unfolding INT
-int-of-multiple k x y h =
-    let t : 2 * (k * x) + k * y ≡ k * (2 * x + y) = ap (λ (n : ℕ). n + k * y) (mul-left-comm 2 k x) ∙ sym (mul-add k (2 * x) y) in
-    (λ i. t i / mul-left-comm 2 k y i) ∙ mul-div-mul-left (2 * x + y) (2 * y) h
 
 -- the two definitions agree on what is not below 0
 pub rounded-whole : (x y : ℕ) → rounded record { top = pos x; bottom = y } ≡ pos (INT x y)

@@ -7,3 +7,4 @@ pub mod Nominal
 pub mod Tested
 pub mod Raised
 pub mod Return
+pub mod Parts

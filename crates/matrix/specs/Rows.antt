@@ -36,17 +36,17 @@ abbrev pub dotted : List ℤ → List ℤ → ℤ
 dotted row t =
     getD row 0 (pos 0) *ℤ getD t 0 (pos 0) +ℤ getD row 1 (pos 0) *ℤ getD t 1 (pos 0) +ℤ getD row 2 (pos 0) *ℤ getD t 2 (pos 0)
 
--- by (R, G, B) they give 224·10000 times Y', Y' - B and Y' - R
+-- by (R, G, B) they give 10000 times Y', Y' - B and Y' - R
 unfoldable pub encodingRows : Matrix → List (List ℤ)
 encodingRows x =
-    (pos (224 * kr x) ∷ pos (224 * kg x) ∷ pos (224 * kb x) ∷ [])
-    ∷ (pos (224 * kr x) ∷ pos (224 * kg x) ∷ negℤ (pos (224 * (10000 - kb x))) ∷ [])
-    ∷ (negℤ (pos (224 * (10000 - kr x))) ∷ pos (224 * kg x) ∷ pos (224 * kb x) ∷ [])
+    (pos (kr x) ∷ pos (kg x) ∷ pos (kb x) ∷ [])
+    ∷ (pos (kr x) ∷ pos (kg x) ∷ negℤ (pos (10000 - kb x)) ∷ [])
+    ∷ (negℤ (pos (10000 - kr x)) ∷ pos (kg x) ∷ pos (kb x) ∷ [])
     ∷ []
 
--- Cb or Cr of 224·10000 times what Y' is above the colour, where own is 10000 less the colour's weight
+-- Cb or Cr of 10000 times what Y' is above the colour, where own is 10000 less the colour's weight
 abbrev pub colourDifference : ℤ → ℕ → ℕ → Ratio
-colourDifference z own s = record { top = pos (128 * s * (219 * 2 * own)) -ℤ z; bottom = 219 * 2 * own }
+colourDifference z own s = record { top = pos (128 * s * (219 * 2 * own)) -ℤ z *ℤ pos 224; bottom = 219 * 2 * own }
 
 -- Y', Cb and Cr, none of them below 0
 unfoldable pub componentsAt : Matrix → ℕ → Codes → List ℕ

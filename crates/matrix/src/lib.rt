@@ -6,7 +6,7 @@ use systems::Range;
 use systems::Refusal;
 use systems::System;
 ghost use mathlib.Core.Path.{_≡_};
-ghost use Prim.Native.Nat.{_+_, _*_, _≤_, _<_};
+ghost use Prim.Native.Nat.{_+_, _*_, _^_, _≤_, _<_};
 ghost use lib.IntN.{pos, natAbs};
 ghost use lib.ListN.{getD};
 ghost use lib.Signed.{_<ℤ_};
@@ -47,6 +47,12 @@ const STEPS: i64 = (Range::WHITE - Range::BLACK) as i64;
 
 // Words from one end of a colour difference to the other at 8 bits.
 const DIFFERENCE_STEPS: i64 = (Range::DIFFERENCE_PEAK - Range::BLACK) as i64;
+
+// Parts of a word in which a colour difference is counted: a power of 2, by which a division is a shift.
+const PARTS: i64 = 1 << 49;
+
+// The most steps that a colour difference has. Each is off by less than one part, so these parts cover what all are off.
+const COVER: i64 = 1 << 25;
 
 // Added to R, G and B until they are clipped, so that a u16 holds them: none that nominal words give is below -RAISE. It is what
 // exact::int_of takes off its quotient, so the two cancel.
@@ -175,33 +181,34 @@ fn components(x: Matrix, s: u16, c: Codes) -> [u64; 3]
     let m = encoding(x);
     let t = [c.r as i64, c.g as i64, c.b as i64];
     [
-        exact::int_of_whole(dot(m[0], t) as u64, (DIFFERENCE_STEPS * ONE) as u64),
+        exact::int_of_whole(dot(m[0], t) as u64, ONE as u64),
         colour_difference(m[1], t, ONE - w.kb, s),
         colour_difference(m[2], t, ONE - w.kr, s),
     ]
 }
 
-// Cb or Cr, by the row of its colour, where own is what the colour's weight leaves of 10000.
+// Cb or Cr, by the row of its colour, where own is what the colour's weight leaves of 10000. One multiplication for a division: the
+// step is rounded down, and what that makes in all never reaches the next word.
 fn colour_difference(row: [i64; 3], triple: [i64; 3], own: i64, s: u16) -> u64
-    requires { ⌜ Small row triple × (pos 0 <ℤ own) × (natAbs own ≤ 10000) × (s ≤ 16) × (natAbs (dotted row triple) ≤ 128 * s * (219 * 2 * natAbs own)) ⌝ }
+    requires { ⌜ Small row triple × (pos 0 <ℤ own) × (natAbs own ≤ 9500) × (s ≤ 16) × (natAbs (dotted row triple) ≤ 2 ^ 25) × (224 * natAbs (dotted row triple) ≤ 128 * s * (219 * 2 * natAbs own)) ⌝ }
     ensures { λ r. ⌜ r ≡ whole (rounded (colourDifference (dotted row triple) (natAbs own) s)) ⌝ }
 {
-    let bottom = STEPS * 2 * own;
     let middle = (Range::MIDDLE * s) as i64;
-    let top = middle * bottom - dot(row, triple);
-    exact::int_of_whole(top as u64, bottom as u64)
+    let step = DIFFERENCE_STEPS * PARTS / (STEPS * 2 * own);
+    let parts = (2 * middle + 1) * (PARTS / 2) + COVER - dot(row, triple) * step;
+    parts as u64 / PARTS as u64
 }
 
-// 224·10000 times Y', Y' - B and Y' - R of (R, G, B): an entry that rows share is multiplied once.
+// 10000 times Y', Y' - B and Y' - R of (R, G, B): an entry that rows share is multiplied once.
 fn encoding(x: Matrix) -> [[i64; 3]; 3]
     ensures { λ r. ⌜ r ≡ encodingRows x ⌝ }
 {
     let w = x.weights();
-    let kr = DIFFERENCE_STEPS * w.kr;
-    let kg = DIFFERENCE_STEPS * w.kg;
-    let kb = DIFFERENCE_STEPS * w.kb;
-    let one = DIFFERENCE_STEPS * ONE;
-    [[kr, kg, kb], [kr, kg, kb - one], [kr - one, kg, kb]]
+    [
+        [w.kr, w.kg, w.kb],
+        [w.kr, w.kg, w.kb - ONE],
+        [w.kr - ONE, w.kg, w.kb],
+    ]
 }
 
 fn codes_in(x: Matrix, s: u16, w: Words) -> Clipped

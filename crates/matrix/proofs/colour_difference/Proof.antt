@@ -1,19 +1,15 @@
-use mathlib.Core.Path.{_≡_, sym, ap, _∙_}
-use Prim.Native.Nat.{ℕ, _+_, _*_, _≤_, _<_}
-use native.Mathlib.Nat.{mul-le-mul-right}
+use mathlib.Core.Path.{_≡_, _∙_}
+use Prim.Native.Nat.{ℕ, _+_, _*_, _^_, _≤_, _<_}
+use native.Mathlib.Nat.{div-le-self}
 use native.Mathlib.Omega.{arith}
-use lib.IntN.{ℤ, pos, natAbs, _-ℤ_}
+use lib.IntN.{ℤ, pos, natAbs, _*ℤ_}
 use mir.Syntax.{w64}
 use mir.Val.{toZ, ofZ}
 use mir.ValLaws.{toZ-ofZ, toZ-pos}
 use borrow.Author.Needs.{needs, sfits-of}
-use Rattle.exact.specs.Signed.{rounded}
-use Rattle.exact.specs.Whole.{INT}
-use Rattle.exact.proofs.Difference.{pos-less-small}
-use Rattle.exact.proofs.Machine.{natAbs-less, fits-i64, reads-back, positive}
-use Rattle.exact.proofs.Rounding.{rounded-whole}
-use Rattle.matrix.specs.Triples.{whole}
-use Rattle.matrix.specs.Rows.{dotted, colourDifference}
+use Rattle.exact.proofs.Machine.{natAbs-mul, fits-i64, reads-back, positive}
+use Rattle.matrix.specs.Rows.{dotted}
+use Rattle.matrix.proofs.Parts.{Counted, step, start, counted, taken-small}
 use Rattle.matrix.proofs.colour_difference.Statement.{statement}
 use Rattle.matrix.proofs.colour_difference.Tie as tie
 
@@ -21,54 +17,63 @@ module _ (s : tie.Start) where
   abbrev own : ℕ
   own = natAbs (s .args .own)
 
-  abbrev product : ℤ
-  product = dotted (s .args .row) (s .args .triple)
+  abbrev bottom : ℕ
+  bottom = 438 * own
 
-  abbrev middle : ℕ
-  middle = 128 * s .args .s * (438 * own)
+  abbrev m : ℕ
+  m = 128 * s .args .s
 
-  -- the numerator, which is not below 0
-  abbrev top : ℕ
-  top = natAbs (pos middle -ℤ product)
+  abbrev z : ℤ
+  z = dotted (s .args .row) (s .args .triple)
+
+  -- what z takes off
+  abbrev taken : ℤ
+  taken = z *ℤ pos (step bottom)
 
   own-positive : 0 < own
   own-positive = positive (s .args .own) (s .pre .1) .1
 
+  parts : Counted z m bottom
+  parts = counted m bottom (omega arith) (omega (arith, own-positive)) (omega arith) z (s .pre .4) (s .pre .5)
+
   own-read : toZ w64 (ofZ w64 (s .args .own)) ≡ pos own
   own-read = reads-back (s .args .own) (omega arith) ∙ positive (s .args .own) (s .pre .1) .0
 
-  bottom-read : toZ w64 (438 * own) ≡ pos (438 * own)
-  bottom-read = toZ-pos w64 (438 * own) (omega arith)
+  bottom-read : toZ w64 bottom ≡ pos bottom
+  bottom-read = toZ-pos w64 bottom (omega arith)
 
-  code-read : toZ w64 (128 * s .args .s) ≡ pos (128 * s .args .s)
-  code-read = toZ-pos w64 (128 * s .args .s) (omega arith)
+  step-small : step bottom ≤ 224 * 2 ^ 49
+  step-small = div-le-self (224 * 2 ^ 49) bottom
 
-  middle-small : middle ≤ 2048 * (438 * own)
-  middle-small = mul-le-mul-right (438 * own) (omega arith)
+  step-read : toZ w64 (step bottom) ≡ pos (step bottom)
+  step-read = toZ-pos w64 (step bottom) (omega (arith, step-small))
 
-  middle-read : toZ w64 middle ≡ pos middle
-  middle-read = toZ-pos w64 middle (omega (arith, middle-small))
+  m-read : toZ w64 m ≡ pos m
+  m-read = toZ-pos w64 m (omega arith)
 
-  top-is : pos middle -ℤ product ≡ pos top
-  top-is = pos-less-small middle product (s .pre .4)
+  twice-read : toZ w64 (2 * m) ≡ pos (2 * m)
+  twice-read = toZ-pos w64 (2 * m) (omega arith)
 
-  top-small : top ≤ 2 * (2048 * (438 * own))
-  top-small = omega (arith, natAbs-less (pos middle) product, s .pre .4, middle-small)
+  odd-read : toZ w64 (2 * m + 1) ≡ pos (2 * m + 1)
+  odd-read = toZ-pos w64 (2 * m + 1) (omega arith)
 
-  top-read : toZ w64 (ofZ w64 (pos middle -ℤ product)) ≡ pos top
-  top-read = reads-back (pos middle -ℤ product) (omega (arith, top-small)) ∙ top-is
+  half-read : toZ w64 ((2 * m + 1) * 2 ^ 48) ≡ pos ((2 * m + 1) * 2 ^ 48)
+  half-read = toZ-pos w64 ((2 * m + 1) * 2 ^ 48) (omega arith)
 
-  value : whole (rounded (colourDifference product own (s .args .s))) ≡ INT top (438 * own)
-  value = ap (λ (z : ℤ). whole (rounded record { top = z; bottom = 438 * own })) top-is ∙ ap whole (rounded-whole top (438 * own))
+  start-read : toZ w64 (start m) ≡ pos (start m)
+  start-read = toZ-pos w64 (start m) (omega arith)
 
-product-read : (c : tie.After-dot) → toZ w64 (ofZ w64 (c .dot .result)) ≡ product (c .before)
-product-read c = toZ-ofZ w64 (c .dot .result) (sfits-of (c .dot .ok)) ∙ c .dot .ensures
+  taken-fits : natAbs taken < 2 ^ 63
+  taken-fits = omega (arith, natAbs-mul z (pos (step bottom)), taken-small m bottom (omega arith) (omega (arith, own-positive)) (omega arith) (natAbs z) (s .pre .5))
 
-mul-bottom : tie.Need-mul-bottom
-mul-bottom c = search needs
+  taken-read : toZ w64 (ofZ w64 taken) ≡ taken
+  taken-read = reads-back taken taken-fits
 
-mul-bottom-2 : tie.Need-mul-bottom-2
-mul-bottom-2 c = rw (own-read c) (fits-i64 (pos (438 * own c)) (omega arith))
+  parts-read : toZ w64 (parts .value) ≡ pos (parts .value)
+  parts-read = toZ-pos w64 (parts .value) (omega (arith, parts .most))
+
+z-read : (c : tie.After-dot) → toZ w64 (ofZ w64 (c .dot .result)) ≡ z (c .before)
+z-read c = toZ-ofZ w64 (c .dot .result) (sfits-of (c .dot .ok)) ∙ c .dot .ensures
 
 mul-middle : tie.Need-mul-middle
 mul-middle c = search needs
@@ -76,48 +81,86 @@ mul-middle c = search needs
 cast-middle : tie.Need-cast-middle
 cast-middle c = search needs
 
-mul-top : tie.Need-mul-top
-mul-top c = rw (own-read c, bottom-read c, code-read c) (fits-i64 (pos (middle c)) (omega (arith, middle-small c)))
+mul-step : tie.Need-mul-step
+mul-step c = search needs
+
+mul-step-2 : tie.Need-mul-step-2
+mul-step-2 c = search needs
+
+mul-step-3 : tie.Need-mul-step-3
+mul-step-3 c = rw (own-read c) (fits-i64 (pos (bottom c)) (omega arith))
+
+div-step : tie.Need-div-step
+div-step c =
+    rw (own-read c, bottom-read c)
+    (omega (arith, own-positive c), fits-i64 (pos (step (bottom c))) (omega (arith, step-small c)))
+
+mul-parts : tie.Need-mul-parts
+mul-parts c = rw (m-read c) (fits-i64 (pos (2 * m c)) (omega arith))
+
+add-parts : tie.Need-add-parts
+add-parts c = rw (m-read c, twice-read c) (fits-i64 (pos (2 * m c + 1)) (omega arith))
+
+div-parts : tie.Need-div-parts
+div-parts c = search needs
+
+mul-parts-2 : tie.Need-mul-parts-2
+mul-parts-2 c = rw (m-read c, twice-read c, odd-read c) (fits-i64 (pos ((2 * m c + 1) * 2 ^ 48)) (omega arith))
+
+add-parts-2 : tie.Need-add-parts-2
+add-parts-2 c = rw (m-read c, twice-read c, odd-read c, half-read c) (fits-i64 (pos (start (m c))) (omega arith))
 
 dot-requires : tie.Need-dot-requires
 dot-requires c κs = search needs
 
-sub-top : tie.Need-sub-top
-sub-top c =
+mul-parts-3 : tie.Need-mul-parts-3
+mul-parts-3 c =
     let s = c .before in
-    rw (product-read c, own-read s, bottom-read s, code-read s, middle-read s) (fits-i64 (pos (middle s) -ℤ product s) (omega (arith, top-small s)))
+    rw (z-read c, own-read s, bottom-read s, step-read s) (fits-i64 (taken s) (taken-fits s))
 
-cast-int-of-whole : tie.Need-cast-int-of-whole
-cast-int-of-whole c =
+sub-parts : tie.Need-sub-parts
+sub-parts c =
     let s = c .before in
-    rw (product-read c, own-read s, bottom-read s, code-read s, middle-read s, top-read s) (tt, record { fits = omega (arith, top-small s) })
+    rw (z-read c, own-read s, bottom-read s, step-read s, m-read s, twice-read s, odd-read s, half-read s, start-read s, taken-read s, parts s .is)
+    (fits-i64 (pos (parts s .value)) (omega (arith, parts s .most)))
 
-cast-int-of-whole-2 : tie.Need-cast-int-of-whole-2
-cast-int-of-whole-2 c = rw (own-read (c .before), bottom-read (c .before)) (tt, record { fits = omega arith })
-
-int-of-whole-requires : tie.Need-int-of-whole-requires
-int-of-whole-requires c κs =
+cast-result : tie.Need-cast-result
+cast-result c =
     let s = c .before in
-    rw (product-read c, own-read s, bottom-read s, code-read s, middle-read s, top-read s)
-    (omega (arith, own-positive s), omega arith, omega (arith, top-small s))
+    rw (z-read c, own-read s, bottom-read s, step-read s, m-read s, twice-read s, odd-read s, half-read s, start-read s, taken-read s, parts s .is, parts-read s)
+    (tt, record { fits = omega (arith, parts s .most) })
+
+cast-result-2 : tie.Need-cast-result-2
+cast-result-2 c = search needs
+
+div-result : tie.Need-div-result
+div-result c = search needs
 
 returns : tie.Need-returns
 returns c =
-    let s = c .before .before in
-    rw (c .int-of-whole .ensures, product-read (c .before), own-read s, bottom-read s, code-read s, middle-read s, top-read s) (sym (value s))
+    let s = c .before in
+    rw (z-read c, own-read s, bottom-read s, step-read s, m-read s, twice-read s, odd-read s, half-read s, start-read s, taken-read s, parts s .is, parts-read s)
+    (parts s .quotient)
 
 pub colour-difference-spec : {M : Type 1} → statement M
 colour-difference-spec =
     tie.close
     (tie.spec
-    mul-bottom
-    mul-bottom-2
     mul-middle
     cast-middle
-    mul-top
+    mul-step
+    mul-step-2
+    mul-step-3
+    div-step
+    mul-parts
+    add-parts
+    div-parts
+    mul-parts-2
+    add-parts-2
     dot-requires
-    sub-top
-    cast-int-of-whole
-    cast-int-of-whole-2
-    int-of-whole-requires
+    mul-parts-3
+    sub-parts
+    cast-result
+    cast-result-2
+    div-result
     returns)

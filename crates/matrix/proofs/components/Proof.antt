@@ -1,7 +1,7 @@
 use mathlib.Core.Path.{_≡_, refl, _∙_}
 use mathlib.Core.List.{[], _∷_}
 use mathlib.Core.Logic.{_⊎_, inl, inr}
-use Prim.Native.Nat.{_-_, _*_, _^_, _<_}
+use Prim.Native.Nat.{_-_, _^_, _<_}
 use native.Mathlib.Omega.{arith}
 use lib.Dec.{lit<}
 use lib.IntN.{pos, natAbs, _-ℤ_}
@@ -32,7 +32,7 @@ module _ (s : tie.Start) where
   b-read : toZ w64 (s .args .c .b) ≡ pos (s .args .c .b)
   b-read = toZ-pos w64 (s .args .c .b) (omega (arith, s .pre .1 .b-high))
 
-  luma : Small (row (s .args .x) 0) (triple (s .args .c)) × (224 * weighted (s .args .x) (s .args .c) < 2 ^ 40)
+  luma : Small (row (s .args .x) 0) (triple (s .args .c)) × (weighted (s .args .x) (s .args .c) < 2 ^ 40)
   luma = luma-ready (s .args .s) (s .args .c) (s .pre .0) (s .pre .1) (s .args .x)
 
   blue : (x : Matrix) → Ready (row x 1) (triple (s .args .c)) (10000 - kb x) (s .args .s)
@@ -46,7 +46,7 @@ weights c = row-of (c .before .args .x) (c .weights .result) (c .weights .ensure
 
 luma-read : (c : tie.After-dot) →
     let s = c .before .before .before .before .before .before .before in
-    toZ w64 (ofZ w64 (c .dot .result)) ≡ pos (224 * weighted (s .args .x) (s .args .c))
+    toZ w64 (ofZ w64 (c .dot .result)) ≡ pos (weighted (s .args .x) (s .args .c))
 luma-read c =
     let e = c .before .before .before .before .before in
     let s = e .before .before in
@@ -64,8 +64,8 @@ cast-int-of-whole c = search needs
 cast-colour-difference : tie.Need-cast-colour-difference
 cast-colour-difference c = search needs
 
-cast-int-of-whole-2 : tie.Need-cast-int-of-whole-2
-cast-int-of-whole-2 c = search needs
+cast-colour-difference-2 : tie.Need-cast-colour-difference-2
+cast-colour-difference-2 c = search needs
 
 array-copy-out-dot : tie.Need-array-copy-out-dot
 array-copy-out-dot c = search needs
@@ -76,16 +76,13 @@ dot-requires c κs =
     let s = e .before .before in
     rw (e .encoding .ensures, r-read s, g-read s, b-read s) (luma s .0)
 
-cast-int-of-whole-3 : tie.Need-cast-int-of-whole-3
-cast-int-of-whole-3 c =
+cast-int-of-whole-2 : tie.Need-cast-int-of-whole-2
+cast-int-of-whole-2 c =
     let s = c .before .before .before .before .before .before .before in
     rw (luma-read c) (tt, record { fits = omega (arith, luma s .1) })
 
-mul-int-of-whole : tie.Need-mul-int-of-whole
-mul-int-of-whole c = search needs
-
-cast-int-of-whole-4 : tie.Need-cast-int-of-whole-4
-cast-int-of-whole-4 c = search needs
+cast-int-of-whole-3 : tie.Need-cast-int-of-whole-3
+cast-int-of-whole-3 c = search needs
 
 int-of-whole-requires : tie.Need-int-of-whole-requires
 int-of-whole-requires c κs =
@@ -130,7 +127,7 @@ colour-difference-requires-2 c κs =
 
 luma-word : (c : tie.After-int-of-whole) →
     let s = c .before .before .before .before .before .before .before .before in
-    c .int-of-whole .result ≡ INT (224 * weighted (s .args .x) (s .args .c)) (224 * 10000)
+    c .int-of-whole .result ≡ INT (weighted (s .args .x) (s .args .c)) 10000
 luma-word c = c .int-of-whole .ensures ∙ (rw (luma-read (c .before)) refl)
 
 -- what the weights of B and R leave of 10000
@@ -176,12 +173,11 @@ components-spec =
     encoding-requires
     cast-int-of-whole
     cast-colour-difference
-    cast-int-of-whole-2
+    cast-colour-difference-2
     array-copy-out-dot
     dot-requires
+    cast-int-of-whole-2
     cast-int-of-whole-3
-    mul-int-of-whole
-    cast-int-of-whole-4
     int-of-whole-requires
     array-copy-out-colour-difference
     sub-colour-difference

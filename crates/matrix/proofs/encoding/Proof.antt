@@ -14,46 +14,24 @@ row c = row-of (c .before .args .x) (c .weights .result) (c .weights .ensures)
 weights-requires : tie.Need-weights-requires
 weights-requires c κs = search needs
 
-mul-kr : tie.Need-mul-kr
-mul-kr c = elim (row (c .before .before)) [
+sub-t4 : tie.Need-sub-t4
+sub-t4 c = elim (row (c .before .before .before)) [
   | inl e ↦ rw (e .1) record { sfits = lit< tt }
   | inr e ↦ rw (e .1) record { sfits = lit< tt }
 ]
 
-mul-kg : tie.Need-mul-kg
-mul-kg c = elim (row (c .before .before .before .before)) [
-  | inl e ↦ rw (e .1) record { sfits = lit< tt }
-  | inr e ↦ rw (e .1) record { sfits = lit< tt }
-]
-
-mul-kb : tie.Need-mul-kb
-mul-kb c = elim (row (c .before .before .before .before .before .before)) [
-  | inl e ↦ rw (e .1) record { sfits = lit< tt }
-  | inr e ↦ rw (e .1) record { sfits = lit< tt }
-]
-
-mul-one : tie.Need-mul-one
-mul-one c = search needs
-
-sub-t8 : tie.Need-sub-t8
-sub-t8 c = elim (row (c .before .before .before .before .before .before)) [
-  | inl e ↦ rw (e .1) record { sfits = lit< tt }
-  | inr e ↦ rw (e .1) record { sfits = lit< tt }
-]
-
-sub-t10 : tie.Need-sub-t10
-sub-t10 c = elim (row (c .before .before .before .before .before .before)) [
+sub-t6 : tie.Need-sub-t6
+sub-t6 c = elim (row (c .before .before .before .before .before .before)) [
   | inl e ↦ rw (e .1) record { sfits = lit< tt }
   | inr e ↦ rw (e .1) record { sfits = lit< tt }
 ]
 
 returns : tie.Need-returns
 unfolding encodingRows
-returns c = elim (row (c .before .before .before .before .before .before)) [
+returns c = elim (row (c .before .before .before .before .before .before .before)) [
   | inl e ↦ rw (e .0, e .1) refl
   | inr e ↦ rw (e .0, e .1) refl
 ]
 
 pub encoding-spec : {M : Type 1} → statement M
-encoding-spec =
-    tie.close (tie.spec weights-requires mul-kr mul-kg mul-kb mul-one sub-t8 sub-t10 returns)
+encoding-spec = tie.close (tie.spec weights-requires sub-t4 sub-t6 returns)

@@ -11,19 +11,25 @@
 #include "contestants.h"
 #include "exact.h"
 
+// What is done just before a contestant is timed: nothing, so that it meets the rows as its turn finds them; a run of its own, so
+// that few rows are in the cache and the work alone is timed; or a sweep through other memory, so that rows come from far away.
+enum before { NOTHING, WARM_UP, SWEEP };
+
 struct set {
     const char *name;
     size_t width, count;
-    int cold; // the rows come from memory, as those of a picture do; else from the cache, so that the work alone is timed
+    enum before before;
 };
 
 static const struct set SETS[] = {
-    {"cache", 1920, 32, 0},
-    {"cache", 7680, 8, 0},
-    {"memory", 7680, 8, 1},
+    {"a picture", 1920, 256, NOTHING},
+    {"a picture", 7680, 64, NOTHING},
+    {"cache", 1920, 32, WARM_UP},
+    {"cache", 7680, 8, WARM_UP},
+    {"memory", 7680, 8, SWEEP},
 };
-enum { SET_COUNT = sizeof SETS / sizeof *SETS, COUNTED_SET = 0 };
-static const struct set COMPARED = {"compared", 7680, 128, 0};
+enum { SET_COUNT = sizeof SETS / sizeof *SETS, COUNTED_SET = 2 };
+static const struct set COMPARED = {"compared", 7680, 128, NOTHING};
 
 // One set of rows of one system, with all who are timed on it.
 struct heat {
@@ -85,9 +91,9 @@ static void sweep(void)
 
 static void prepare(const struct heat *heat, const struct contestant *c)
 {
-    if (heat->set->cold)
+    if (heat->set->before == SWEEP)
         sweep();
-    else
+    if (heat->set->before == WARM_UP)
         c->run(c->state);
 }
 
@@ -197,7 +203,7 @@ static void compare_all(const struct set *set)
 
 static void time_single_calls(int rounds)
 {
-    static const struct set ONE = {"call", 1, 1, 0};
+    static const struct set ONE = {"call", 1, 1, NOTHING};
     printf("\nns a call\n%-8s%-26s%8s\n", "system", "call", "ns");
     for (int s = 0; s < SYSTEM_COUNT; s++) {
         struct call calls[CALLS];
@@ -211,7 +217,7 @@ static void time_single_calls(int rounds)
 
 static void list(void)
 {
-    static const struct set LEAST = {"list", ALIGN, 1, 0};
+    static const struct set LEAST = {"list", ALIGN, 1, NOTHING};
     struct heat heat = heat_of(&LEAST, &SYSTEMS[0]);
     for (int i = 0; i < CONTESTANTS; i++)
         printf("%d,%s,%s\n", i, WAY_NAMES[heat.contestants[i].way], heat.contestants[i].name);

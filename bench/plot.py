@@ -5,7 +5,7 @@ from pathlib import Path
 
 from figures import SYSTEM_NAMES, SYSTEMS, Figures
 
-AT = 7680, "cache"
+AT = 7680, "a picture"
 # Colours that stay apart for colour-blind readers.
 OURS, PEER, SAME_PEER, OTHER_PEER = "#0b5fa5", "#e08214", "#f6c98f", "#7f8c8d"
 PANELS = (
@@ -94,7 +94,7 @@ def picture(f):
         bottoms.append(bottom)
     height = max(bottoms) + 56
     versions = f"zimg {f.versions['zimg']}, swscale of FFmpeg {f.versions['FFmpeg'].split('-')[0]}"
-    note = f"Rows of 7680 random samples in the cache, least of {f.versions['rounds']} rounds; {versions}."
+    note = f"Rows of 7680 random samples, one after the other as in a picture, least of {f.versions['rounds']} rounds; {versions}."
     head = f'<svg xmlns="http://www.w3.org/2000/svg" viewBox="0 0 {WIDTH} {height:.0f}" font-family="Helvetica, Arial, sans-serif">'
     frame = [rectangle(0, 0, WIDTH, height, "#fff"), text(20, 34, "Rows and blocks beside zimg and swscale", 20, weight="bold")]
     return "\n".join([head, *frame, *drawn, text(20, height - 16, note, 12, colour="#666"), "</svg>"]) + "\n"

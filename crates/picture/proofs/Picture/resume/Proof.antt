@@ -1,40 +1,28 @@
 use borrow.Author.Needs.{needs}
 use Rattle.picture.proofs.Picture.resume.Statement.{statement}
 use Rattle.picture.proofs.Picture.resume.Tie as tie
-use Rattle.picture.proofs.Picture.resume.Reads as reads
-use Rattle.picture.proofs.Picture.resume.Lts as lts
-use Rattle.picture.proofs.Picture.new.Reads as new-reads
-use Rattle.picture.proofs.resume_open.Reads as resume-open-reads
 
--- src/lib.rt:56:29
 enum-told : tie.Need-enum-told
 enum-told c = search needs
 
--- src/lib.rt:56:29
 new-requires : tie.Need-new-requires
 new-requires c κs = search needs
 
--- src/lib.rt:57:25
 enum-known-phase : tie.Need-enum-known-phase
 enum-known-phase c = search needs
 
--- src/lib.rt:57:31
 resume-open-requires : tie.Need-resume-open-requires
 resume-open-requires c κs = search needs
 
--- src/lib.rt:59:24
 enum-told-2 : tie.Need-enum-told-2
 enum-told-2 c = search needs
 
--- src/lib.rt:52:5
 returns : tie.Need-returns
 returns c = search needs
 
--- src/lib.rt:52:5
 returns-2 : tie.Need-returns-2
 returns-2 c = simp (c .before .before .phase .given .1, c .resume-open .ensures)
 
--- src/lib.rt:52:5
 returns-3 : tie.Need-returns-3
 returns-3 c = simp (c .enum-told2 .given .1)
 

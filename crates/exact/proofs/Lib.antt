@@ -6,6 +6,5 @@ pub mod Search
 pub mod Table
 pub mod Machine
 pub mod Difference
-pub mod Lift
 pub mod Nearest
 pub mod Scaled

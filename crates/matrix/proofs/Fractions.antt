@@ -28,7 +28,7 @@ difference-rounds x m k v c D =
     rounds-top (difference x m k v c .top) (10000 * v * 224 + m * d) (n * 224 + 0) d
     ((λ i. (ap (λ (z : ℤ). z *ℤ pos 224) (pos-less (10000 * v) n) ∙ sub-mul (10000 * v) n 224) i +ℤ pos-sub (m * d) i) ∙ sub-add (10000 * v * 224) (n * 224) (m * d) 0) D
 
-signed-by : (s w k : ℕ) → signed s w *ℤ pos k ≡ subℕ (w * k) (128 * s * k)
+pub signed-by : (s w k : ℕ) → signed s w *ℤ pos k ≡ subℕ (w * k) (128 * s * k)
 signed-by s w k = ap (λ (z : ℤ). z *ℤ pos k) (pos-less w (128 * s)) ∙ sub-mul w (128 * s) k
 
 pub primary-rounds : (y w s k : ℕ) →

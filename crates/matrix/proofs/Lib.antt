@@ -1,5 +1,6 @@
 pub mod Weights
 pub mod Clipping
+pub mod Counted
 pub mod WayBack
 pub mod WayThere
 pub mod Fractions

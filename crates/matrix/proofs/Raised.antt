@@ -18,7 +18,7 @@ use Rattle.systems.specs.declared.Codes.{Codes}
 use Rattle.systems.specs.declared.Matrix.{Matrix}
 use Rattle.systems.specs.declared.Matrix.the-variants.{Bt709, Bt2020}
 use Rattle.systems.specs.declared.Range.{Range}
-use Rattle.systems.specs.Systems.{kr, kb}
+use Rattle.systems.specs.Systems.{kr, kg, kb}
 use Rattle.matrix.specs.declared.Clipped.{Clipped}
 use Rattle.matrix.specs.declared.Words.{Words}
 use Rattle.matrix.specs.Triples.{whole, redOf, greenOf, blueOf, clipped, beyond, codesAt}
@@ -26,9 +26,9 @@ use Rattle.matrix.specs.Rows.{NominalWords, Clippable, raised, lowered, 
 use Rattle.matrix.proofs.Fractions.{primary-rounds, green-rounds}
 
 -- ---- up and down again
-pub raised-is : (z : ℤ) → natAbs z ≤ 8192 → (z +ℤ pos 16384 ≡ pos (raised z)) × (raised z ≤ 24576)
-raised-is (pos a) h = (refl, omega arith)
-raised-is (negsuc a) h = let e = sub-pos 16384 (suc a) (omega arith) in (rw e refl, rw e (omega arith))
+pub lifted-is : (z : ℤ) (k : ℕ) → natAbs z ≤ k → (z +ℤ pos k ≡ pos (whole (z +ℤ pos k))) × (whole (z +ℤ pos k) ≤ natAbs z + k)
+lifted-is (pos a) k h = (refl, omega arith)
+lifted-is (negsuc a) k h = let e = sub-pos k (suc a) h in (rw e refl, rw e (omega arith))
 
 lowered-raised : (z : ℤ) → natAbs z ≤ 8192 → lowered (raised z) ≡ z
 lowered-raised (pos a) h = sub-eq (a + 16384) 16384 a 0 (omega arith) ∙ sym (pos-sub a)
@@ -95,21 +95,32 @@ module _ (n : Range) (v : ℕ) where
       go false false p q = (beyond-by false false p q, omega arith)
 
 -- ---- of nominal words
-small : (p n d : ℕ) (v : ℤ) (r : Rounds p n d v) → r .up ≤ r .down + 8192 → r .down ≤ r .up + 8192 → natAbs v ≤ 8192
-small p n d v r h l = rw (r .is) (sub-size (r .up) (r .down) 8192 h l)
+abbrev Within : {p n d : ℕ} {v : ℤ} → Rounds p n d v → Type 0
+Within r = (r .up ≤ r .down + 8192) × (r .down ≤ r .up + 8192)
+
+pub green-divisor : (x : Matrix) → 0 < 224 * 10000 * kg x
+green-divisor Bt709 = lit< tt
+green-divisor Bt2020 = lit< tt
+
+pub rounds-within : (x : Matrix) (s : ℕ) (w : Words) → s ≤ 16 → NominalWords s w
+    → Within (primary-rounds (w .y) (w .cr) s (kr x)) × Within (green-rounds x s w (green-divisor x)) × Within (primary-rounds (w .y) (w .cb) s (kb x))
+rounds-within Bt709 s w S n =
+    let r = primary-rounds (w .y) (w .cr) s (kr Bt709) in
+    let g = green-rounds Bt709 s w (green-divisor Bt709) in
+    let b = primary-rounds (w .y) (w .cb) s (kb Bt709) in
+    ((omega arith, omega arith), (omega arith, omega arith), (omega arith, omega arith))
+rounds-within Bt2020 s w S n =
+    let r = primary-rounds (w .y) (w .cr) s (kr Bt2020) in
+    let g = green-rounds Bt2020 s w (green-divisor Bt2020) in
+    let b = primary-rounds (w .y) (w .cb) s (kb Bt2020) in
+    ((omega arith, omega arith), (omega arith, omega arith), (omega arith, omega arith))
+
+small : {p n d : ℕ} {v : ℤ} (r : Rounds p n d v) → Within r → natAbs v ≤ 8192
+small r h = rw (r .is) (sub-size (r .up) (r .down) 8192 (h .0) (h .1))
 
 pub primaries-small : (x : Matrix) (s : ℕ) (w : Words) → s ≤ 16 → NominalWords s w
     → (natAbs (rounded (redOf x s w)) ≤ 8192) × (natAbs (rounded (greenOf x s w)) ≤ 8192) × (natAbs (rounded (blueOf x s w)) ≤ 8192)
-primaries-small Bt709 s w S n =
-    let r = primary-rounds (w .y) (w .cr) s (kr Bt709) in
-    let g = green-rounds Bt709 s w (lit< tt) in
-    let b = primary-rounds (w .y) (w .cb) s (kb Bt709) in
-    (small _ _ _ _ r (omega arith) (omega arith), small _ _ _ _ g (omega arith) (omega arith), small _ _ _ _ b (omega arith) (omega arith))
-primaries-small Bt2020 s w S n =
-    let r = primary-rounds (w .y) (w .cr) s (kr Bt2020) in
-    let g = green-rounds Bt2020 s w (lit< tt) in
-    let b = primary-rounds (w .y) (w .cb) s (kb Bt2020) in
-    (small _ _ _ _ r (omega arith) (omega arith), small _ _ _ _ g (omega arith) (omega arith), small _ _ _ _ b (omega arith) (omega arith))
+primaries-small x s w S n = let h = rounds-within x s w S n in (small (primary-rounds (w .y) (w .cr) s (kr x)) (h .0), small (green-rounds x s w (green-divisor x)) (h .1), small (primary-rounds (w .y) (w .cb) s (kb x)) (h .2))
 
 -- a raised triple clipped to 16s to 235s, and the count of those that were
 abbrev pub fromRaised : ℕ → Codes → Clipped

@@ -1,6 +1,6 @@
 -- Each matrix as three rows of three whole numbers by a triple (document 01, 'Triples').
 -- Definitions only.
-use Prim.Native.Nat.{ℕ, _*_, _-_, _^_, _≤_}
+use Prim.Native.Nat.{ℕ, _+_, _*_, _-_, _/_, _^_, _≤_}
 use mathlib.Core.List.{List, [], _∷_}
 use mathlib.Core.Bool.{Bool, true, false}
 use lib.Dec.{ltb}
@@ -52,27 +52,27 @@ colourDifference z own s = record { top = pos (128 * s * (219 * 2 * own)) -ℤ z
 unfoldable pub componentsAt : Matrix → ℕ → Codes → List ℕ
 componentsAt x s c = whole (rounded (luma x c)) ∷ whole (rounded (cbOf x s c)) ∷ whole (rounded (crOf x s c)) ∷ []
 
--- the way back: by (Y', cb, cr) they give 224·10000·R, 224·10000·kg·G and 224·10000·B
+-- a fraction in parts, 2^48 to a code, rounded down
+abbrev pub parts : ℕ → ℕ → ℕ
+parts a d = a * 2 ^ 48 / d
+
+-- the way back: by (Y', cb, cr) they give R, G and B in parts, but for what the entries are rounded
 unfoldable pub decodingRows : Matrix → List (List ℤ)
 decodingRows x =
     let y = 224 * 10000 in
-    (pos y ∷ pos 0 ∷ pos (219 * 2 * (10000 - kr x)) ∷ [])
-    ∷ (pos (y * kg x) ∷ negℤ (pos (219 * 2 * kb x * (10000 - kb x))) ∷ negℤ (pos (219 * 2 * kr x * (10000 - kr x))) ∷ [])
-    ∷ (pos y ∷ pos (219 * 2 * (10000 - kb x)) ∷ pos 0 ∷ [])
+    (pos (2 ^ 48) ∷ pos 0 ∷ pos (parts (219 * 2 * (10000 - kr x)) y) ∷ [])
+    ∷ (pos (2 ^ 48) ∷ negℤ (pos (parts (219 * 2 * kb x * (10000 - kb x)) (y * kg x))) ∷ negℤ (pos (parts (219 * 2 * kr x * (10000 - kr x)) (y * kg x))) ∷ [])
+    ∷ (pos (2 ^ 48) ∷ pos (parts (219 * 2 * (10000 - kb x)) y) ∷ pos 0 ∷ [])
     ∷ []
 
 -- a row and a triple whose product an i64 holds
 pub record Small (row t : List ℤ) : Type 0 where
-  pub row-0 : natAbs (getD row 0 (pos 0)) ≤ 2 ^ 40
-  pub row-1 : natAbs (getD row 1 (pos 0)) ≤ 2 ^ 40
-  pub row-2 : natAbs (getD row 2 (pos 0)) ≤ 2 ^ 40
-  pub triple-0 : natAbs (getD t 0 (pos 0)) ≤ 2 ^ 16
-  pub triple-1 : natAbs (getD t 1 (pos 0)) ≤ 2 ^ 16
-  pub triple-2 : natAbs (getD t 2 (pos 0)) ≤ 2 ^ 16
-
--- R, G and B before they are clipped
-unfoldable pub primariesAt : Matrix → ℕ → Words → List ℤ
-primariesAt x s w = rounded (redOf x s w) ∷ rounded (greenOf x s w) ∷ rounded (blueOf x s w) ∷ []
+  pub row-0 : natAbs (getD row 0 (pos 0)) ≤ 2 ^ 49
+  pub row-1 : natAbs (getD row 1 (pos 0)) ≤ 2 ^ 49
+  pub row-2 : natAbs (getD row 2 (pos 0)) ≤ 2 ^ 49
+  pub triple-0 : natAbs (getD t 0 (pos 0)) ≤ 2 ^ 12
+  pub triple-1 : natAbs (getD t 1 (pos 0)) ≤ 2 ^ 12
+  pub triple-2 : natAbs (getD t 2 (pos 0)) ≤ 2 ^ 12
 
 -- a component raised above 0, and taken down again
 abbrev pub raised : ℤ → ℕ
@@ -83,6 +83,10 @@ lowered n = pos n -ℤ pos 16384
 
 unfoldable pub raisedAt : Matrix → ℕ → Words → Codes
 raisedAt x s w = record { r = raised (rounded (redOf x s w)); g = raised (rounded (greenOf x s w)); b = raised (rounded (blueOf x s w)) }
+
+-- a component of so many parts, raised: the whole number nearest to them and to what the rounded entries can be off
+abbrev pub counted : ℤ → ℕ
+counted z = whole (z +ℤ pos (16384 * 2 ^ 48 + 2 ^ 47 + 2 ^ 12)) / 2 ^ 48
 
 -- a range to which raised components can be clipped
 pub record Clippable (n : Range) : Type 0 where

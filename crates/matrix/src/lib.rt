@@ -13,7 +13,7 @@ ghost use lib.Signed.{_<ℤ_};
 ghost use Rattle.exact.specs.Signed.{rounded};
 ghost use Rattle.systems.specs.declared.Matrix.the-variants.{Bt709, Bt2020};
 ghost use Rattle.matrix.specs.Triples.{wordsAt, codesAt, wordsOfCodes, codesOfWords, toldWords, toldCodes, wordsWithin, whole, signed, clipped, beyond};
-ghost use Rattle.matrix.specs.Rows.{NominalCodes, NominalWords, Small, dotted, encodingRows, colourDifference, componentsAt, decodingRows, primariesAt, raised, lowered, raisedAt, Clippable, atLeast, atMost};
+ghost use Rattle.matrix.specs.Rows.{NominalCodes, NominalWords, Small, dotted, encodingRows, colourDifference, componentsAt, decodingRows, lowered, raisedAt, parts, counted, Clippable, atLeast, atMost};
 
 // Y', Cb and Cr words of a sample.
 #[repr(C)]
@@ -54,9 +54,16 @@ const PARTS: i64 = 1 << 49;
 // The most steps that a colour difference has. Each is off by less than one part, so these parts cover what all are off.
 const COVER: i64 = 1 << 25;
 
-// Added to R, G and B until they are clipped, so that a u16 holds them: none that nominal words give is below -RAISE. It is what
-// exact::int_of takes off its quotient, so the two cancel.
+// Added to R, G and B until they are clipped, so that a u16 holds them: none that nominal words give is below -RAISE.
 const RAISE: u16 = 16384;
+
+// Parts of a code in which R, G and B are counted.
+const CODE_PARTS: i64 = 1 << 48;
+
+const HALF: u64 = 1 << 24;
+
+// The way back's entries are off by less than one part each, and cb and cr are at most 1792: these parts cover what all are off.
+const CODE_COVER: i64 = 1 << 12;
 
 // The words of a code triple; refused with 1, then 6.
 pub fn words_of_codes(system: u32, codes: Codes) -> Encoded
@@ -232,41 +239,27 @@ fn codes_in(x: Matrix, s: u16, w: Words) -> Clipped
     }
 }
 
+// R, G and B, raised and not clipped yet.
 fn raised_in(x: Matrix, s: u16, w: Words) -> Codes
     requires { ⌜ (s ≤ 16) × NominalWords s w ⌝ }
     ensures { λ r. ⌜ r ≡ raisedAt x s w ⌝ }
 {
-    let v = primaries(x, s, w);
+    let m = decoding(x);
+    let t = [w.y as i64, signed(s, w.cb), signed(s, w.cr)];
     Codes {
-        r: raise(v[0]),
-        g: raise(v[1]),
-        b: raise(v[2]),
+        r: primary(m[0], t),
+        g: primary(m[1], t),
+        b: primary(m[2], t),
     }
 }
 
-fn raise(v: i64) -> u16
-    requires { ⌜ natAbs v ≤ 8192 ⌝ }
-    ensures { λ r. ⌜ r ≡ raised v ⌝ }
+// R, G or B by its row, raised and rounded.
+fn primary(row: [i64; 3], triple: [i64; 3]) -> u16
+    requires { ⌜ Small row triple × (natAbs (dotted row triple) ≤ 8192 * 2 ^ 48) ⌝ }
+    ensures { λ r. ⌜ r ≡ counted (dotted row triple) ⌝ }
 {
-    (v + RAISE as i64) as u16
-}
-
-// R, G and B before they are clipped.
-fn primaries(x: Matrix, s: u16, w: Words) -> [i64; 3]
-    requires { ⌜ (s ≤ 16) × NominalWords s w ⌝ }
-    ensures { λ r. ⌜ r ≡ primariesAt x s w ⌝ }
-{
-    let m = decoding(x);
-    let t = [w.y as i64, signed(s, w.cb), signed(s, w.cr)];
-    [primary(m[0], t), primary(m[1], t), primary(m[2], t)]
-}
-
-// A row's divisor is the entry by which it multiplies Y'.
-fn primary(row: [i64; 3], triple: [i64; 3]) -> i64
-    requires { ⌜ Small row triple × (pos 0 <ℤ getD row 0 (pos 0)) × (natAbs (dotted row triple) ≤ 8192 * natAbs (getD row 0 (pos 0))) ⌝ }
-    ensures { λ r. ⌜ r ≡ rounded (record { top = dotted row triple; bottom = natAbs (getD row 0 (pos 0)) }) ⌝ }
-{
-    exact::int_of(dot(row, triple), row[0])
+    let parts = dot(row, triple) + (RAISE as i64 * CODE_PARTS + CODE_PARTS / 2 + CODE_COVER);
+    (parts as u64 / CODE_PARTS as u64) as u16
 }
 
 // A row of a matrix by a triple.
@@ -285,7 +278,7 @@ fn signed(s: u16, word: u16) -> i64
     word as i64 - (Range::MIDDLE * s) as i64
 }
 
-// The way back from (Y', cb, cr): 224·10000 times R, 224·10000·kg times G and 224·10000 times B.
+// R, G and B of (Y', cb, cr), in parts.
 fn decoding(x: Matrix) -> [[i64; 3]; 3]
     ensures { λ r. ⌜ r ≡ decodingRows x ⌝ }
 {
@@ -293,9 +286,21 @@ fn decoding(x: Matrix) -> [[i64; 3]; 3]
     let y = DIFFERENCE_STEPS * ONE;
     let cr = STEPS * 2 * (ONE - w.kr);
     let cb = STEPS * 2 * (ONE - w.kb);
+    let green_cb = in_parts(cb * w.kb, y * w.kg);
+    let green_cr = in_parts(cr * w.kr, y * w.kg);
     [
-        [y, 0, cr],
-        [y * w.kg, 0 - cb * w.kb, 0 - cr * w.kr],
-        [y, cb, 0],
+        [CODE_PARTS, 0, in_parts(cr, y)],
+        [CODE_PARTS, 0 - green_cb, 0 - green_cr],
+        [CODE_PARTS, in_parts(cb, y), 0],
     ]
+}
+
+// A fraction in parts, rounded down: divided twice by half of the places, since no i64 holds top by all parts.
+fn in_parts(top: i64, bottom: i64) -> i64
+    requires { ⌜ (pos 0 <ℤ top) × (pos 0 <ℤ bottom) × (natAbs bottom ≤ 2 ^ 34) × (natAbs top ≤ 2 * natAbs bottom) ⌝ }
+    ensures { λ r. ⌜ r ≡ pos (parts (natAbs top) (natAbs bottom)) ⌝ }
+{
+    let t = top as u64 * HALF;
+    let b = bottom as u64;
+    (t / b * HALF + t % b * HALF / b) as i64
 }

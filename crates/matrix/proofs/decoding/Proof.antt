@@ -1,6 +1,6 @@
 use mathlib.Core.Path.{refl}
 use mathlib.Core.Logic.{_⊎_, inl, inr}
-use lib.Dec.{lit<}
+use lib.Dec.{lit<, lit≤}
 use borrow.Author.Needs.{needs}
 use Rattle.systems.specs.declared.Matrix.the-variants.{Bt709, Bt2020}
 use Rattle.matrix.specs.Rows.{decodingRows}
@@ -47,41 +47,71 @@ mul-cb-2 c = elim (row (c .before .before .before .before)) [
   | inr e ↦ rw (e .1) record { sfits = lit< tt }
 ]
 
-mul-t6 : tie.Need-mul-t6
-mul-t6 c = elim (row (c .before .before .before .before .before .before)) [
+mul-in-parts : tie.Need-mul-in-parts
+mul-in-parts c = elim (row (c .before .before .before .before .before .before)) [
   | inl e ↦ rw (e .1) record { sfits = lit< tt }
   | inr e ↦ rw (e .1) record { sfits = lit< tt }
 ]
 
-mul-t7 : tie.Need-mul-t7
-mul-t7 c = elim (row (c .before .before .before .before .before .before .before .before)) [
+mul-in-parts-2 : tie.Need-mul-in-parts-2
+mul-in-parts-2 c = elim (row (c .before .before .before .before .before .before .before .before)) [
   | inl e ↦ rw (e .1) record { sfits = lit< tt }
   | inr e ↦ rw (e .1) record { sfits = lit< tt }
+]
+
+in-parts-requires : tie.Need-in-parts-requires
+in-parts-requires c κs = elim (row (c .before .before .before .before .before .before .before .before)) [
+  | inl e ↦ rw (e .1) (record { lt = tt }, record { lt = tt }, lit≤ tt, lit≤ tt)
+  | inr e ↦ rw (e .1) (record { lt = tt }, record { lt = tt }, lit≤ tt, lit≤ tt)
+]
+
+mul-in-parts-3 : tie.Need-mul-in-parts-3
+mul-in-parts-3 c = elim (row (c .before .before .before .before .before .before .before .before .before .before .before)) [
+  | inl e ↦ rw (e .1) record { sfits = lit< tt }
+  | inr e ↦ rw (e .1) record { sfits = lit< tt }
+]
+
+mul-in-parts-4 : tie.Need-mul-in-parts-4
+mul-in-parts-4 c = elim (row (c .before .before .before .before .before .before .before .before .before .before .before .before .before)) [
+  | inl e ↦ rw (e .1) record { sfits = lit< tt }
+  | inr e ↦ rw (e .1) record { sfits = lit< tt }
+]
+
+in-parts-requires-2 : tie.Need-in-parts-requires-2
+in-parts-requires-2 c κs = elim (row (c .before .before .before .before .before .before .before .before .before .before .before .before .before)) [
+  | inl e ↦ rw (e .1) (record { lt = tt }, record { lt = tt }, lit≤ tt, lit≤ tt)
+  | inr e ↦ rw (e .1) (record { lt = tt }, record { lt = tt }, lit≤ tt, lit≤ tt)
+]
+
+in-parts-requires-3 : tie.Need-in-parts-requires-3
+in-parts-requires-3 c κs = elim (row (c .before .before .before .before .before .before .before .before .before .before .before .before .before .before)) [
+  | inl e ↦ rw (e .1) (record { lt = tt }, record { lt = tt }, lit≤ tt, lit≤ tt)
+  | inr e ↦ rw (e .1) (record { lt = tt }, record { lt = tt }, lit≤ tt, lit≤ tt)
 ]
 
 sub-t9 : tie.Need-sub-t9
-sub-t9 c = elim (row (c .before .before .before .before .before .before .before .before)) [
-  | inl e ↦ rw (e .1) record { sfits = lit< tt }
-  | inr e ↦ rw (e .1) record { sfits = lit< tt }
-]
-
-mul-t10 : tie.Need-mul-t10
-mul-t10 c = elim (row (c .before .before .before .before .before .before .before .before .before .before)) [
-  | inl e ↦ rw (e .1) record { sfits = lit< tt }
-  | inr e ↦ rw (e .1) record { sfits = lit< tt }
+sub-t9 c = elim (row (c .before .before .before .before .before .before .before .before .before .before .before .before .before .before .before)) [
+  | inl e ↦ rw (c .before .before .before .before .before .before .in-parts .ensures, e .1) record { sfits = lit< tt }
+  | inr e ↦ rw (c .before .before .before .before .before .before .in-parts .ensures, e .1) record { sfits = lit< tt }
 ]
 
 sub-t11 : tie.Need-sub-t11
-sub-t11 c = elim (row (c .before .before .before .before .before .before .before .before .before .before)) [
-  | inl e ↦ rw (e .1) record { sfits = lit< tt }
-  | inr e ↦ rw (e .1) record { sfits = lit< tt }
+sub-t11 c = elim (row (c .before .before .before .before .before .before .before .before .before .before .before .before .before .before .before)) [
+  | inl e ↦ rw (c .before .in-parts2 .ensures, e .1) record { sfits = lit< tt }
+  | inr e ↦ rw (c .before .in-parts2 .ensures, e .1) record { sfits = lit< tt }
+]
+
+in-parts-requires-4 : tie.Need-in-parts-requires-4
+in-parts-requires-4 c κs = elim (row (c .before .before .before .before .before .before .before .before .before .before .before .before .before .before .before)) [
+  | inl e ↦ rw (e .1) (record { lt = tt }, record { lt = tt }, lit≤ tt, lit≤ tt)
+  | inr e ↦ rw (e .1) (record { lt = tt }, record { lt = tt }, lit≤ tt, lit≤ tt)
 ]
 
 returns : tie.Need-returns
 unfolding decodingRows
-returns c = elim (row (c .before .before .before .before .before .before .before .before .before .before)) [
-  | inl e ↦ rw (e .0, e .1) refl
-  | inr e ↦ rw (e .0, e .1) refl
+returns c = elim (row (c .before .before .before .before .before .before .before .before .before .before .before .before .before .before .before .before)) [
+  | inl e ↦ rw (c .before .before .before .before .before .before .before .in-parts .ensures, c .before .before .in-parts2 .ensures, c .before .in-parts3 .ensures, c .in-parts4 .ensures, e .0, e .1) refl
+  | inr e ↦ rw (c .before .before .before .before .before .before .before .in-parts .ensures, c .before .before .in-parts2 .ensures, c .before .in-parts3 .ensures, c .in-parts4 .ensures, e .0, e .1) refl
 ]
 
 pub decoding-spec : {M : Type 1} → statement M
@@ -96,9 +126,14 @@ decoding-spec =
     mul-cb
     sub-cb
     mul-cb-2
-    mul-t6
-    mul-t7
+    mul-in-parts
+    mul-in-parts-2
+    in-parts-requires
+    mul-in-parts-3
+    mul-in-parts-4
+    in-parts-requires-2
+    in-parts-requires-3
     sub-t9
-    mul-t10
     sub-t11
+    in-parts-requires-4
     returns)

@@ -1,5 +1,5 @@
 use mathlib.Core.Path.{_≡_}
-use Prim.Native.Nat.{ℕ, _+_, _*_, _^_, _≤_}
+use Prim.Native.Nat.{ℕ, _+_, _*_, _^_, _≤_, _<_}
 use native.Mathlib.Omega.{arith}
 use lib.IntN.{ℤ, pos, natAbs, _+ℤ_, _*ℤ_}
 use lib.ListN.{getD}
@@ -20,22 +20,22 @@ module _ (s : tie.Start) where
   abbrev product : ℕ → ℤ
   product k = row k *ℤ triple k
 
-  read : (z : ℤ) → natAbs z ≤ 2 ^ 60 → toZ w64 (ofZ w64 z) ≡ z
+  read : (z : ℤ) → natAbs z < 2 ^ 63 → toZ w64 (ofZ w64 z) ≡ z
   read z h = reads-back z (omega arith)
 
-  size-0 : natAbs (product 0) ≤ 2 ^ 40 * 2 ^ 16
-  size-0 = natAbs-mul-le (row 0) (triple 0) (2 ^ 40) (2 ^ 16) (s .pre .row-0) (s .pre .triple-0)
+  size-0 : natAbs (product 0) ≤ 2 ^ 49 * 2 ^ 12
+  size-0 = natAbs-mul-le (row 0) (triple 0) (2 ^ 49) (2 ^ 12) (s .pre .row-0) (s .pre .triple-0)
 
-  size-1 : natAbs (product 1) ≤ 2 ^ 40 * 2 ^ 16
-  size-1 = natAbs-mul-le (row 1) (triple 1) (2 ^ 40) (2 ^ 16) (s .pre .row-1) (s .pre .triple-1)
+  size-1 : natAbs (product 1) ≤ 2 ^ 49 * 2 ^ 12
+  size-1 = natAbs-mul-le (row 1) (triple 1) (2 ^ 49) (2 ^ 12) (s .pre .row-1) (s .pre .triple-1)
 
-  size-2 : natAbs (product 2) ≤ 2 ^ 40 * 2 ^ 16
-  size-2 = natAbs-mul-le (row 2) (triple 2) (2 ^ 40) (2 ^ 16) (s .pre .row-2) (s .pre .triple-2)
+  size-2 : natAbs (product 2) ≤ 2 ^ 49 * 2 ^ 12
+  size-2 = natAbs-mul-le (row 2) (triple 2) (2 ^ 49) (2 ^ 12) (s .pre .row-2) (s .pre .triple-2)
 
-  size-sum : natAbs (product 0 +ℤ product 1) ≤ 2 ^ 58
+  size-sum : natAbs (product 0 +ℤ product 1) ≤ 2 ^ 62
   size-sum = omega (arith, natAbs-add (product 0) (product 1), size-0, size-1)
 
-  size-all : natAbs (product 0 +ℤ product 1 +ℤ product 2) ≤ 2 ^ 59
+  size-all : natAbs (product 0 +ℤ product 1 +ℤ product 2) ≤ 3 * 2 ^ 61
   size-all = omega (arith, natAbs-add (product 0 +ℤ product 1) (product 2), size-sum, size-2)
 
   row-0 : toZ w64 (ofZ w64 (row 0)) ≡ row 0

@@ -1,36 +1,87 @@
 use mathlib.Core.Path.{_≡_, _∙_}
+use Prim.Native.Nat.{ℕ, _+_, _*_, _/_, _^_, _≤_, _<_}
 use native.Mathlib.Omega.{arith}
-use lib.IntN.{pos}
-use lib.ListN.{getD}
+use lib.IntN.{ℤ, pos, natAbs, _+ℤ_}
 use mir.Syntax.{w64}
 use mir.Val.{toZ, ofZ}
 use mir.ValLaws.{toZ-ofZ}
 use borrow.Author.Needs.{needs, sfits-of}
-use Rattle.exact.proofs.Machine.{reads-back}
+use Rattle.exact.proofs.Machine.{fits-i64, reads-back}
+use Rattle.matrix.specs.Triples.{whole}
 use Rattle.matrix.specs.Rows.{dotted}
+use Rattle.matrix.proofs.Raised.{lifted-is}
 use Rattle.matrix.proofs.primary.Statement.{statement}
 use Rattle.matrix.proofs.primary.Tie as tie
 
-divisor-read : (s : tie.Start) → toZ w64 (ofZ w64 (getD (s .args .t1) 0 (pos 0))) ≡ getD (s .args .t1) 0 (pos 0)
-divisor-read s = reads-back (getD (s .args .t1) 0 (pos 0)) (omega (arith, s .pre .0 .row-0))
+module _ (c : tie.After-dot) where
+  abbrev z : ℤ
+  z = dotted (c .before .args .row) (c .before .args .triple)
 
-top-read : (c : tie.After-dot) → toZ w64 (ofZ w64 (c .dot .result)) ≡ dotted (c .before .args .t1) (c .before .args .triple)
-top-read c = toZ-ofZ w64 (c .dot .result) (sfits-of (c .dot .ok)) ∙ c .dot .ensures
+  abbrev start : ℕ
+  start = 16384 * 2 ^ 48 + 2 ^ 47 + 2 ^ 12
+
+  -- the parts
+  abbrev t : ℕ
+  t = whole (z +ℤ pos start)
+
+  dot-read : toZ w64 (ofZ w64 (c .dot .result)) ≡ z
+  dot-read = toZ-ofZ w64 (c .dot .result) (sfits-of (c .dot .ok)) ∙ c .dot .ensures
+
+  is : (z +ℤ pos start ≡ pos t) × (t < 2 ^ 63)
+  is = let l = lifted-is z start (omega (arith, c .before .pre .1)) in (l .0, omega (arith, l .1, c .before .pre .1))
+
+  parts-read : toZ w64 (ofZ w64 (z +ℤ pos start)) ≡ pos t
+  parts-read = rw (is .0) (reads-back (pos t) (is .1))
 
 dot-requires : tie.Need-dot-requires
 dot-requires c κs = search needs
 
-array-copy-out-int-of : tie.Need-array-copy-out-int-of
-array-copy-out-int-of c = search needs
+cast-parts : tie.Need-cast-parts
+cast-parts c = search needs
 
-int-of-requires : tie.Need-int-of-requires
-int-of-requires c κs =
-    let s = c .before .before in
-    rw (divisor-read s, top-read (c .before)) (s .pre .1, s .pre .0 .row-0, s .pre .2)
+mul-parts : tie.Need-mul-parts
+mul-parts c = search needs
+
+div-parts : tie.Need-div-parts
+div-parts c = search needs
+
+add-parts : tie.Need-add-parts
+add-parts c = search needs
+
+add-parts-2 : tie.Need-add-parts-2
+add-parts-2 c = search needs
+
+add-parts-3 : tie.Need-add-parts-3
+add-parts-3 c = rw (dot-read c, is c .0) (fits-i64 (pos (t c)) (is c .1))
+
+cast-result : tie.Need-cast-result
+cast-result c = rw (dot-read c, parts-read c) (tt, record { fits = omega (arith, is c .1) })
+
+cast-result-2 : tie.Need-cast-result-2
+cast-result-2 c = search needs
+
+div-result : tie.Need-div-result
+div-result c = search needs
+
+cast-result-3 : tie.Need-cast-result-3
+cast-result-3 c = rw (dot-read c, parts-read c) record { fits = omega (arith, is c .1) }
 
 returns : tie.Need-returns
-returns c =
-    rw (toZ-ofZ w64 (c .int-of .result) (sfits-of (c .int-of .ok)), c .int-of .ensures, divisor-read (c .before .before .before), top-read (c .before .before))
+returns c = rw (dot-read c, parts-read c)
 
 pub primary-spec : {M : Type 1} → statement M
-primary-spec = tie.close (tie.spec dot-requires array-copy-out-int-of int-of-requires returns)
+primary-spec =
+    tie.close
+    (tie.spec
+    dot-requires
+    cast-parts
+    mul-parts
+    div-parts
+    add-parts
+    add-parts-2
+    add-parts-3
+    cast-result
+    cast-result-2
+    div-result
+    cast-result-3
+    returns)

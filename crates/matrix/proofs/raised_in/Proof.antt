@@ -1,81 +1,99 @@
-use mathlib.Core.Path.{_≡_}
-use Prim.Native.Nat.{_≤_}
+use mathlib.Core.Path.{_≡_, _∙_}
+use mathlib.Core.List.{List}
 use native.Mathlib.Omega.{arith}
-use lib.IntN.{ℤ, pos, natAbs}
-use lib.ListN.{getD}
+use lib.IntN.{ℤ, pos}
 use mir.Syntax.{w64}
 use mir.Val.{toZ, ofZ}
-use borrow.Author.Needs.{needs}
-use Rattle.exact.specs.Signed.{rounded}
-use Rattle.exact.proofs.Machine.{reads-back}
-use Rattle.matrix.specs.Triples.{redOf, greenOf, blueOf}
-use Rattle.matrix.specs.Rows.{primariesAt, raisedAt}
-use Rattle.matrix.proofs.Raised.{primaries-small}
+use mir.ValLaws.{toZ-ofZ, toZ-pos}
+use borrow.Author.Needs.{needs, sfits-of}
+use Rattle.matrix.specs.Triples.{signed}
+use Rattle.matrix.proofs.WayBack.{Ready, row, triple, rows-ready, difference-small, rows-give-raised}
 use Rattle.matrix.proofs.raised_in.Statement.{statement}
 use Rattle.matrix.proofs.raised_in.Tie as tie
 
--- what is read of each component
-module _ (c : tie.After-primaries) where
-  abbrev r : ℤ
-  r = rounded (redOf (c .before .args .x) (c .before .args .s) (c .before .args .w))
+module _ (s : tie.Start) where
+  abbrev cb : ℤ
+  cb = signed (s .args .s) (s .args .w .cb)
 
-  abbrev g : ℤ
-  g = rounded (greenOf (c .before .args .x) (c .before .args .s) (c .before .args .w))
+  abbrev cr : ℤ
+  cr = signed (s .args .s) (s .args .w .cr)
 
-  abbrev b : ℤ
-  b = rounded (blueOf (c .before .args .x) (c .before .args .s) (c .before .args .w))
+  abbrev sample : List ℤ
+  sample = triple (s .args .w .y) cb cr
 
-  size : (natAbs r ≤ 8192) × (natAbs g ≤ 8192) × (natAbs b ≤ 8192)
-  size = primaries-small (c .before .args .x) (c .before .args .s) (c .before .args .w) (c .before .pre .0) (c .before .pre .1)
+  y-read : toZ w64 (s .args .w .y) ≡ pos (s .args .w .y)
+  y-read = toZ-pos w64 (s .args .w .y) (omega (arith, s .pre .1 .y-high))
 
-  red : toZ w64 (ofZ w64 (getD (c .primaries .result) 0 (pos 0))) ≡ r
-  unfolding primariesAt
-  red = rw (c .primaries .ensures) (reads-back r (omega (arith, size .0)))
+  ready : Ready (row (s .args .x) 0) sample × Ready (row (s .args .x) 1) sample × Ready (row (s .args .x) 2) sample
+  ready =
+      let n = s .pre .1 in
+      rows-ready (s .args .w .y) cb cr (omega (arith, n .y-high)) (difference-small _ _ (s .pre .0) (n .cb-low) (n .cb-high))
+      (difference-small _ _ (s .pre .0) (n .cr-low) (n .cr-high)) (s .args .x)
 
-  green : toZ w64 (ofZ w64 (getD (c .primaries .result) 1 (pos 0))) ≡ g
-  unfolding primariesAt
-  green = rw (c .primaries .ensures) (reads-back g (omega (arith, size .1)))
+cb-read : (c : tie.After-signed) → toZ w64 (ofZ w64 (c .signed .result)) ≡ cb (c .before .before .before)
+cb-read c = toZ-ofZ w64 (c .signed .result) (sfits-of (c .signed .ok)) ∙ c .signed .ensures
 
-  blue : toZ w64 (ofZ w64 (getD (c .primaries .result) 2 (pos 0))) ≡ b
-  unfolding primariesAt
-  blue = rw (c .primaries .ensures) (reads-back b (omega (arith, size .2)))
+cr-read : (c : tie.After-signed2) → toZ w64 (ofZ w64 (c .signed2 .result)) ≡ cr (c .before .before .before .before)
+cr-read c = toZ-ofZ w64 (c .signed2 .result) (sfits-of (c .signed2 .ok)) ∙ c .signed2 .ensures
 
-primaries-requires : tie.Need-primaries-requires
-primaries-requires c κs = search needs
+decoding-requires : tie.Need-decoding-requires
+decoding-requires c κs = search needs
 
-array-copy-out-raise : tie.Need-array-copy-out-raise
-array-copy-out-raise c = search needs
+cast-t7 : tie.Need-cast-t7
+cast-t7 c = search needs
 
-raise-requires : tie.Need-raise-requires
-raise-requires c κs = let p = c .before in rw (red p) (size p .0)
+signed-requires : tie.Need-signed-requires
+signed-requires c κs = search needs
 
-array-copy-out-raise-2 : tie.Need-array-copy-out-raise-2
-array-copy-out-raise-2 c = search needs
+signed-requires-2 : tie.Need-signed-requires-2
+signed-requires-2 c κs = search needs
 
-raise-requires-2 : tie.Need-raise-requires-2
-raise-requires-2 c κs = let p = c .before .before .before in rw (green p) (size p .1)
+array-copy-out-primary : tie.Need-array-copy-out-primary
+array-copy-out-primary c = search needs
 
-array-copy-out-raise-3 : tie.Need-array-copy-out-raise-3
-array-copy-out-raise-3 c = search needs
+primary-requires : tie.Need-primary-requires
+primary-requires c κs =
+    let d = c .before in
+    let s = d .before .before .before .before in
+    rw (d .before .before .before .decoding .ensures, y-read s, cb-read (d .before), cr-read d) (ready s .0)
 
-raise-requires-3 : tie.Need-raise-requires-3
-raise-requires-3 c κs = let p = c .before .before .before .before .before in rw (blue p) (size p .2)
+array-copy-out-primary-2 : tie.Need-array-copy-out-primary-2
+array-copy-out-primary-2 c = search needs
+
+primary-requires-2 : tie.Need-primary-requires-2
+primary-requires-2 c κs =
+    let d = c .before .before .before in
+    let s = d .before .before .before .before in
+    rw (d .before .before .before .decoding .ensures, y-read s, cb-read (d .before), cr-read d) (ready s .1)
+
+array-copy-out-primary-3 : tie.Need-array-copy-out-primary-3
+array-copy-out-primary-3 c = search needs
+
+primary-requires-3 : tie.Need-primary-requires-3
+primary-requires-3 c κs =
+    let d = c .before .before .before .before .before in
+    let s = d .before .before .before .before in
+    rw (d .before .before .before .decoding .ensures, y-read s, cb-read (d .before), cr-read d) (ready s .2)
 
 returns : tie.Need-returns
-unfolding raisedAt
 returns c =
-    let p = c .before .before .before .before .before .before in
-    rw (c .before .before .before .before .raise .ensures, c .before .before .raise2 .ensures, c .raise3 .ensures, red p, green p, blue p)
+    let d = c .before .before .before .before .before .before in
+    let s = d .before .before .before .before in
+    rw (c .before .before .before .before .primary .ensures, c .before .before .primary2 .ensures, c .primary3 .ensures, d .before .before .before .decoding .ensures, y-read s, cb-read (d .before), cr-read d)
+    (rows-give-raised (s .args .x) (s .args .s) (s .args .w) (s .pre .0) (s .pre .1))
 
 pub raised-in-spec : {M : Type 1} → statement M
 raised-in-spec =
     tie.close
     (tie.spec
-    primaries-requires
-    array-copy-out-raise
-    raise-requires
-    array-copy-out-raise-2
-    raise-requires-2
-    array-copy-out-raise-3
-    raise-requires-3
+    decoding-requires
+    cast-t7
+    signed-requires
+    signed-requires-2
+    array-copy-out-primary
+    primary-requires
+    array-copy-out-primary-2
+    primary-requires-2
+    array-copy-out-primary-3
+    primary-requires-3
     returns)

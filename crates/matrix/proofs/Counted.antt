@@ -8,7 +8,7 @@ use lib.IntN.{ℤ, pos, natAbs, subℕ, _+ℤ_}
 use Rattle.exact.proofs.Difference.{pos-sub, sub-pos, sub-add}
 use Rattle.exact.proofs.Nearest.{Rounds}
 use Rattle.matrix.specs.Triples.{whole}
-use Rattle.matrix.specs.Rows.{parts, raised, counted}
+use Rattle.matrix.specs.Rows.{parts, raised, lead, counted}
 
 -- divided twice by half of the places
 pub in-two-steps : (t b : ℕ) → 0 < b → t * 2 ^ 24 / b * 2 ^ 24 + t * 2 ^ 24 % b * 2 ^ 24 / b ≡ parts t b
@@ -19,6 +19,11 @@ in-two-steps t b B =
     let e : (r + q * b) * 2 ^ 24 ≡ a * 2 ^ 24 = ap (λ (x : ℕ). x * 2 ^ 24) (mod-add-div' a b) in
     let f : r * 2 ^ 24 + q * 2 ^ 24 * b ≡ t * 2 ^ 48 = omega (arith, add-mul r (q * b) (2 ^ 24), mul-right-comm q (2 ^ 24) b) in
     add-comm (q * 2 ^ 24) (r * 2 ^ 24 / b) ∙ sym (add-mul-div-right (r * 2 ^ 24) (q * 2 ^ 24) B) ∙ ap (λ (x : ℕ). x / b) f
+
+lifted : (a b k : ℕ) → b ≤ a + k → whole (subℕ a b +ℤ pos k) ≡ a + k - b
+lifted a b k h =
+    let e : a + k - (b + 0) ≡ a + k - b = omega arith in
+    ap whole ((λ i. subℕ a b +ℤ pos-sub k i) ∙ sub-add a b k 0 ∙ sub-pos (a + k) (b + 0) (omega arith)) ∙ e
 
 module _ (d : ℕ) (D : 0 < d) (D' : d ≤ 2 ^ 34) where
   -- what an entry is short of a fraction, by d
@@ -51,13 +56,10 @@ module _ (d : ℕ) (D : 0 < d) (D' : d ≤ 2 ^ 34) where
     abbrev minus : ℕ
     minus = v * parts a d + v' * parts a' d
 
-    abbrev start : ℕ
-    start = 16384 * 2 ^ 48 + 2 ^ 47 + 2 ^ 12
-
     -- what the parts come to, by d
-    plus-by : (plus + start) * d + (u * short a + u' * short a') ≡ 2 ^ 48 * (d * y + u * a + u' * a') + start * d
+    plus-by : (plus + lead) * d + (u * short a + u' * short a') ≡ 2 ^ 48 * (d * y + u * a + u' * a') + lead * d
     plus-by =
-        let e : (plus + start) * d ≡ plus * d + start * d = add-mul plus start d in
+        let e : (plus + lead) * d ≡ plus * d + lead * d = add-mul plus lead d in
         let f : plus * d ≡ (2 ^ 48 * y + u * parts a d) * d + u' * parts a' d * d = add-mul (2 ^ 48 * y + u * parts a d) (u' * parts a' d) d in
         let g : (2 ^ 48 * y + u * parts a d) * d ≡ 2 ^ 48 * y * d + u * parts a d * d = add-mul (2 ^ 48 * y) (u * parts a d) d in
         let h : 2 ^ 48 * y * d ≡ 2 ^ 48 * d * y = mul-right-comm (2 ^ 48) y d in
@@ -68,7 +70,7 @@ module _ (d : ℕ) (D : 0 < d) (D' : d ≤ 2 ^ 34) where
         let e : minus * d ≡ v * parts a d * d + v' * parts a' d * d = add-mul (v * parts a d) (v' * parts a' d) d in
         omega (arith, times v a, times v' a')
 
-    pub row-rounds : (p n : ℕ) (z : ℤ) (r : Rounds p n d z) → p ≡ d * y + u * a + u' * a' → n ≡ v * a + v' * a' → (r .up ≤ r .down + 8192) × (r .down ≤ r .up + 8192) → counted (subℕ plus minus) ≡ raised z
+    pub row-rounds : (p n : ℕ) (z : ℤ) (r : Rounds p n d z) → p ≡ d * y + u * a + u' * a' → n ≡ v * a + v' * a' → r .down ≤ r .up + 8192 → counted (subℕ plus minus) ≡ raised z
     row-rounds p n z r P N within =
         let k = r .up + 16384 - r .down in
         let ru = rounding u v a U in
@@ -78,16 +80,15 @@ module _ (d : ℕ) (D : 0 < d) (D' : d ≤ 2 ^ 34) where
         let k1 : (k + r .down) * d ≡ k * d + r .down * d = add-mul k (r .down) d in
         let k2 : (r .up + 16384) * d ≡ r .up * d + 16384 * d = add-mul (r .up) 16384 d in
         let k3 : (k + r .down) * d ≡ (r .up + 16384) * d = ap (λ (x : ℕ). x * d) (omega arith) in
-        let below : r .down * d ≤ (r .up + 8192) * d = mul-le-mul-right d (within .1) in
+        let below : r .down * d ≤ (r .up + 8192) * d = mul-le-mul-right d within in
         let below' : (r .up + 8192) * d ≡ r .up * d + 8192 * d = add-mul (r .up) 8192 d in
-        let fits : minus ≤ plus + start = le-of-mul-le-mul-right {k = d} (omega (arith, plus-by, minus-by, r .not-over)) D in
-        let t = plus + start - minus in
+        let fits : minus ≤ plus + lead = le-of-mul-le-mul-right {k = d} (omega (arith, plus-by, minus-by, r .not-over)) D in
+        let t = plus + lead - minus in
         let sum : (t + minus) * d ≡ t * d + minus * d = add-mul t minus d in
-        let sum' : (t + minus) * d ≡ (plus + start) * d = ap (λ (x : ℕ). x * d) (omega arith) in
+        let sum' : (t + minus) * d ≡ (plus + lead) * d = ap (λ (x : ℕ). x * d) (omega arith) in
         let low : k * 2 ^ 48 * d ≡ k * d * 2 ^ 48 = mul-right-comm k (2 ^ 48) d in
         let high : (k + 1) * 2 ^ 48 * d ≡ (k + 1) * d * 2 ^ 48 = mul-right-comm (k + 1) (2 ^ 48) d in
         let high' : (k + 1) * d ≡ k * d + 1 * d = add-mul k 1 d in
         let quotient : t / 2 ^ 48 ≡ k = div-eq-of-lt-le (2 ^ 48) (le-of-mul-le-mul-right {k = d} (omega (arith, plus-by, minus-by, r .not-over)) D) (lt-of-mul-lt-mul-right d (omega (arith, plus-by, minus-by, r .not-under))) in
-        let raised-is : raised z ≡ k = ap (λ (x : ℤ). raised x) (r .is) ∙ ap whole ((λ i. subℕ (r .up) (r .down) +ℤ pos-sub 16384 i) ∙ sub-add (r .up) (r .down) 16384 0 ∙ sub-pos (r .up + 16384) (r .down + 0) (omega arith)) ∙ omega arith in
-        let t-is : counted (subℕ plus minus) ≡ t / 2 ^ 48 = ap (λ (x : ℤ). whole x / 2 ^ 48) ((λ i. subℕ plus minus +ℤ pos-sub start i) ∙ sub-add plus minus start 0 ∙ sub-pos (plus + start) (minus + 0) (omega arith)) ∙ ap (λ (x : ℕ). x / 2 ^ 48) (omega arith) in
-        t-is ∙ quotient ∙ sym raised-is
+        let z-is : raised z ≡ k = ap raised (r .is) ∙ lifted (r .up) (r .down) 16384 (omega (arith, within)) in
+        ap (λ (x : ℕ). x / 2 ^ 48) (lifted plus minus lead fits) ∙ quotient ∙ sym z-is

@@ -65,15 +65,14 @@ module _ (x : Matrix) (s : ℕ) (w : Words) (S : s ≤ 16) (n : NominalWords s w
 
   -- R or B: Y' and one colour difference
   one : (v k : ℕ) → 16 * s ≤ v → v ≤ 240 * s → let a = 219 * 2 * (10000 - k) in let r = primary-rounds (w .y) v s k in
-      (r .up ≤ r .down + 8192) × (r .down ≤ r .up + 8192)
-      → (z : ℤ) → z ≡ pos (2 ^ 48 * w .y) +ℤ signed s v *ℤ pos (parts a (224 * 10000)) → counted z ≡ raised (rounded (primary (w .y) (signed s v) k))
+      r .down ≤ r .up + 8192 → (z : ℤ) → z ≡ pos (2 ^ 48 * w .y) +ℤ signed s v *ℤ pos (parts a (224 * 10000)) → counted z ≡ raised (rounded (primary (w .y) (signed s v) k))
   one v k l h within z is =
       let d : ℕ = 2240000 in
       let a = 438 * (10000 - k) in
       let e = parts a d in
       let p = 2 ^ 48 * w .y in
       let sum : z ≡ subℕ (p + v * e + 0 * 0) (m * e + 0 * 0) =
-          is ∙ (λ i. pos-sub p i +ℤ signed-by s v e i) ∙ sub-add p 0 (v * e) (m * e) ∙ sub-eq (p + v * e) (0 + m * e) (p + v * e + 0 * 0) (m * e + 0 * 0) (omega arith) in
+      is ∙ (λ i. pos-sub p i +ℤ signed-by s v e i) ∙ sub-add p 0 (v * e) (m * e) ∙ sub-eq (p + v * e) (0 + m * e) (p + v * e + 0 * 0) (m * e + 0 * 0) (omega arith) in
       ap counted sum ∙ row-rounds d (lit< tt) (lit≤ tt) (w .y) v m a 0 0 0 (omega arith) (omega arith) (omega arith) (omega arith) _ _ _ (primary-rounds (w .y) v s k) (omega arith) (omega arith) within
 
   red : counted (dotted (row x 0) sample) ≡ raised (rounded (redOf x s w))
@@ -82,7 +81,7 @@ module _ (x : Matrix) (s : ℕ) (w : Words) (S : s ≤ 16) (n : NominalWords s w
       let c = signed s (w .cr) in
       let e = parts (438 * (10000 - kr x)) 2240000 in
       let p = 2 ^ 48 * w .y in
-      one (w .cr) (kr x) (n .cr-low) (n .cr-high) (rounds-within x s w S n .0) (dotted (row x 0) sample)
+      one (w .cr) (kr x) (n .cr-low) (n .cr-high) (rounds-within x s w S n .0 .1) (dotted (row x 0) sample)
       ((λ i. pos p +ℤ zero-*ℤ (signed s (w .cb)) i +ℤ *ℤ-comm (pos e) c i) ∙ ap (λ (z : ℤ). z +ℤ c *ℤ pos e) (+ℤ-idr (pos p)))
 
   blue : counted (dotted (row x 2) sample) ≡ raised (rounded (blueOf x s w))
@@ -91,7 +90,7 @@ module _ (x : Matrix) (s : ℕ) (w : Words) (S : s ≤ 16) (n : NominalWords s w
       let c = signed s (w .cb) in
       let e = parts (438 * (10000 - kb x)) 2240000 in
       let p = 2 ^ 48 * w .y in
-      one (w .cb) (kb x) (n .cb-low) (n .cb-high) (rounds-within x s w S n .2) (dotted (row x 2) sample)
+      one (w .cb) (kb x) (n .cb-low) (n .cb-high) (rounds-within x s w S n .2 .1) (dotted (row x 2) sample)
       ((λ i. pos p +ℤ *ℤ-comm (pos e) c i +ℤ zero-*ℤ (signed s (w .cr)) i) ∙ +ℤ-idr (pos p +ℤ c *ℤ pos e))
 
   green : counted (dotted (row x 1) sample) ≡ raised (rounded (greenOf x s w))
@@ -106,11 +105,11 @@ module _ (x : Matrix) (s : ℕ) (w : Words) (S : s ≤ 16) (n : NominalWords s w
       let vb = w .cb in
       let vr = w .cr in
       let sum : dotted (row x 1) sample ≡ subℕ (p + m * eb + m * er) (vb * eb + vr * er) =
-          (λ i. pos p +ℤ negated eb (signed s vb) i +ℤ negated er (signed s vr) i)
-          ∙ (λ i. ((λ j. pos-sub p j -ℤ signed-by s vb eb j) ∙ sub-minus p 0 (vb * eb) (m * eb)) i -ℤ signed-by s vr er i)
-          ∙ sub-minus (p + m * eb) (0 + vb * eb) (vr * er) (m * er)
-          ∙ sub-eq (p + m * eb + m * er) (0 + vb * eb + vr * er) (p + m * eb + m * er) (vb * eb + vr * er) (omega arith) in
-      ap counted sum ∙ row-rounds d (green-divisor x) (green-small x) (w .y) m vb b m vr r (omega (arith, n)) (omega (arith, n)) (omega (arith, n)) (omega (arith, n)) _ _ _ (green-rounds x s w (green-divisor x)) (omega arith) (omega arith) (rounds-within x s w S n .1)
+      (λ i. pos p +ℤ negated eb (signed s vb) i +ℤ negated er (signed s vr) i)
+      ∙ (λ i. ((λ j. pos-sub p j -ℤ signed-by s vb eb j) ∙ sub-minus p 0 (vb * eb) (m * eb)) i -ℤ signed-by s vr er i)
+      ∙ sub-minus (p + m * eb) (0 + vb * eb) (vr * er) (m * er)
+      ∙ sub-eq (p + m * eb + m * er) (0 + vb * eb + vr * er) (p + m * eb + m * er) (vb * eb + vr * er) (omega arith) in
+      ap counted sum ∙ row-rounds d (green-divisor x) (green-small x) (w .y) m vb b m vr r (omega (arith, n)) (omega (arith, n)) (omega (arith, n)) (omega (arith, n)) _ _ _ (green-rounds x s w (green-divisor x)) (omega arith) (omega arith) (rounds-within x s w S n .1 .1)
 
   pub rows-give-raised : record { r = counted (dotted (row x 0) sample); g = counted (dotted (row x 1) sample); b = counted (dotted (row x 2) sample) } ≡ raisedAt x s w
   unfolding raisedAt

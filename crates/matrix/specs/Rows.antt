@@ -84,9 +84,13 @@ lowered n = pos n -ℤ pos 16384
 unfoldable pub raisedAt : Matrix → ℕ → Words → Codes
 raisedAt x s w = record { r = raised (rounded (redOf x s w)); g = raised (rounded (greenOf x s w)); b = raised (rounded (blueOf x s w)) }
 
--- a component of so many parts, raised: the whole number nearest to them and to what the rounded entries can be off
+-- what is added to a component's parts: it is raised, a half goes up, and the rounded entries are off by up to 2^12 in all
+abbrev pub lead : ℕ
+lead = 16384 * 2 ^ 48 + 2 ^ 47 + 2 ^ 12
+
+-- a component of so many parts, raised and rounded
 abbrev pub counted : ℤ → ℕ
-counted z = whole (z +ℤ pos (16384 * 2 ^ 48 + 2 ^ 47 + 2 ^ 12)) / 2 ^ 48
+counted z = whole (z +ℤ pos lead) / 2 ^ 48
 
 -- a range to which raised components can be clipped
 pub record Clippable (n : Range) : Type 0 where

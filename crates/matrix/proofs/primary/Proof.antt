@@ -8,7 +8,7 @@ use mir.ValLaws.{toZ-ofZ}
 use borrow.Author.Needs.{needs, sfits-of}
 use Rattle.exact.proofs.Machine.{fits-i64, reads-back}
 use Rattle.matrix.specs.Triples.{whole}
-use Rattle.matrix.specs.Rows.{dotted}
+use Rattle.matrix.specs.Rows.{dotted, lead}
 use Rattle.matrix.proofs.Raised.{lifted-is}
 use Rattle.matrix.proofs.primary.Statement.{statement}
 use Rattle.matrix.proofs.primary.Tie as tie
@@ -17,20 +17,17 @@ module _ (c : tie.After-dot) where
   abbrev z : ℤ
   z = dotted (c .before .args .row) (c .before .args .triple)
 
-  abbrev start : ℕ
-  start = 16384 * 2 ^ 48 + 2 ^ 47 + 2 ^ 12
-
   -- the parts
   abbrev t : ℕ
-  t = whole (z +ℤ pos start)
+  t = whole (z +ℤ pos lead)
 
   dot-read : toZ w64 (ofZ w64 (c .dot .result)) ≡ z
   dot-read = toZ-ofZ w64 (c .dot .result) (sfits-of (c .dot .ok)) ∙ c .dot .ensures
 
-  is : (z +ℤ pos start ≡ pos t) × (t < 2 ^ 63)
-  is = let l = lifted-is z start (omega (arith, c .before .pre .1)) in (l .0, omega (arith, l .1, c .before .pre .1))
+  is : (z +ℤ pos lead ≡ pos t) × (t < 2 ^ 63)
+  is = let l = lifted-is z lead (omega (arith, c .before .pre .1)) in (l .0, omega (arith, l .1, c .before .pre .1))
 
-  parts-read : toZ w64 (ofZ w64 (z +ℤ pos start)) ≡ pos t
+  parts-read : toZ w64 (ofZ w64 (z +ℤ pos lead)) ≡ pos t
   parts-read = rw (is .0) (reads-back (pos t) (is .1))
 
 dot-requires : tie.Need-dot-requires

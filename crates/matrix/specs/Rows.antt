@@ -14,6 +14,10 @@ use Rattle.systems.specs.declared.Codes.{Codes}
 use Rattle.matrix.specs.declared.Words.{Words}
 use Rattle.matrix.specs.Triples.{luma, cbOf, crOf, whole, redOf, greenOf, blueOf}
 
+-- the codes R, G and B that a triple holds
+abbrev pub triple : List ℕ → Codes
+triple c = record { r = getD c 0 0; g = getD c 1 0; b = getD c 2 0 }
+
 -- codes and words that are nominal at the scale s
 pub record NominalCodes (s : ℕ) (c : Codes) : Type 0 where
   pub r-low : 16 * s ≤ c .r
@@ -36,12 +40,12 @@ abbrev pub dotted : List ℤ → List ℤ → ℤ
 dotted row t =
     getD row 0 (pos 0) *ℤ getD t 0 (pos 0) +ℤ getD row 1 (pos 0) *ℤ getD t 1 (pos 0) +ℤ getD row 2 (pos 0) *ℤ getD t 2 (pos 0)
 
--- by (R, G, B) they give 10000 times Y', Y' - B and Y' - R
+-- by (R, G, B) they give 10000 times Y', B and R
 unfoldable pub encodingRows : Matrix → List (List ℤ)
 encodingRows x =
     (pos (kr x) ∷ pos (kg x) ∷ pos (kb x) ∷ [])
-    ∷ (pos (kr x) ∷ pos (kg x) ∷ negℤ (pos (10000 - kb x)) ∷ [])
-    ∷ (negℤ (pos (10000 - kr x)) ∷ pos (kg x) ∷ pos (kb x) ∷ [])
+    ∷ (pos 0 ∷ pos 0 ∷ pos 10000 ∷ [])
+    ∷ (pos 10000 ∷ pos 0 ∷ pos 0 ∷ [])
     ∷ []
 
 -- Cb or Cr of 10000 times what Y' is above the colour, where own is 10000 less the colour's weight

@@ -13,7 +13,7 @@ ghost use lib.Signed.{_<ℤ_};
 ghost use Rattle.exact.specs.Signed.{rounded};
 ghost use Rattle.systems.specs.declared.Matrix.the-variants.{Bt709, Bt2020};
 ghost use Rattle.matrix.specs.Triples.{wordsAt, codesAt, wordsOfCodes, codesOfWords, toldWords, toldCodes, wordsWithin, whole, signed, clipped, beyond};
-ghost use Rattle.matrix.specs.Rows.{NominalCodes, NominalWords, Small, dotted, encodingRows, colourDifference, componentsAt, decodingRows, lowered, raisedAt, parts, counted, Clippable, atLeast, atMost};
+ghost use Rattle.matrix.specs.Rows.{triple, NominalCodes, NominalWords, Small, dotted, encodingRows, colourDifference, componentsAt, decodingRows, lowered, raisedAt, parts, counted, Clippable, atLeast, atMost};
 
 // Y', Cb and Cr words of a sample.
 #[repr(C)]
@@ -72,7 +72,8 @@ pub fn words_of_codes(system: u32, codes: Codes) -> Encoded
     match System::from_number(system) {
         Named::Known(y) => {
             if codes.all_in(y.nominal()) {
-                Encoded::Words(words_in(y.matrix(), y.scale(), codes))
+                let c = [codes.r as usize, codes.g as usize, codes.b as usize];
+                Encoded::Words(words_in(y.matrix(), y.scale(), c))
             } else {
                 Encoded::Refused(Refusal::Code)
             }
@@ -98,17 +99,17 @@ pub fn codes_of_words(system: u32, words: Words) -> Decoded
 }
 
 // The codes' words by BT.709's matrix; its divisors are known when the call is compiled.
-pub fn words_709(s: u16, c: Codes) -> Words
-    requires { ⌜ (0 < s) × (s ≤ 16) × NominalCodes s c ⌝ }
-    ensures { λ r. ⌜ r ≡ wordsAt Bt709 s c ⌝ }
+pub fn words_709(s: u16, c: [usize; 3]) -> Words
+    requires { ⌜ (0 < s) × (s ≤ 16) × NominalCodes s (triple c) ⌝ }
+    ensures { λ r. ⌜ r ≡ wordsAt Bt709 s (triple c) ⌝ }
 {
     words_in(Matrix::Bt709, s, c)
 }
 
 // The codes' words by BT.2020's matrix.
-pub fn words_2020(s: u16, c: Codes) -> Words
-    requires { ⌜ (0 < s) × (s ≤ 16) × NominalCodes s c ⌝ }
-    ensures { λ r. ⌜ r ≡ wordsAt Bt2020 s c ⌝ }
+pub fn words_2020(s: u16, c: [usize; 3]) -> Words
+    requires { ⌜ (0 < s) × (s ≤ 16) × NominalCodes s (triple c) ⌝ }
+    ensures { λ r. ⌜ r ≡ wordsAt Bt2020 s (triple c) ⌝ }
 {
     words_in(Matrix::Bt2020, s, c)
 }
@@ -167,9 +168,9 @@ impl Words {
     }
 }
 
-fn words_in(x: Matrix, s: u16, c: Codes) -> Words
-    requires { ⌜ (s ≤ 16) × NominalCodes s c ⌝ }
-    ensures { λ r. ⌜ r ≡ wordsAt x s c ⌝ }
+fn words_in(x: Matrix, s: u16, c: [usize; 3]) -> Words
+    requires { ⌜ (s ≤ 16) × NominalCodes s (triple c) ⌝ }
+    ensures { λ r. ⌜ r ≡ wordsAt x s (triple c) ⌝ }
 {
     let v = components(x, s, c);
     Words {
@@ -180,42 +181,39 @@ fn words_in(x: Matrix, s: u16, c: Codes) -> Words
 }
 
 // Y', Cb and Cr.
-fn components(x: Matrix, s: u16, c: Codes) -> [u64; 3]
-    requires { ⌜ (s ≤ 16) × NominalCodes s c ⌝ }
-    ensures { λ r. ⌜ r ≡ componentsAt x s c ⌝ }
+fn components(x: Matrix, s: u16, c: [usize; 3]) -> [u64; 3]
+    requires { ⌜ (s ≤ 16) × NominalCodes s (triple c) ⌝ }
+    ensures { λ r. ⌜ r ≡ componentsAt x s (triple c) ⌝ }
 {
     let w = x.weights();
     let m = encoding(x);
-    let t = [c.r as i64, c.g as i64, c.b as i64];
+    let t = [c[0] as i64, c[1] as i64, c[2] as i64];
+    let luma = dot(m[0], t);
     [
-        exact::int_of_whole(dot(m[0], t) as u64, ONE as u64),
-        colour_difference(m[1], t, ONE - w.kb, s),
-        colour_difference(m[2], t, ONE - w.kr, s),
+        exact::int_of_whole(luma as u32, ONE as u32) as u64,
+        colour_difference(luma - dot(m[1], t), ONE - w.kb, s),
+        colour_difference(luma - dot(m[2], t), ONE - w.kr, s),
     ]
 }
 
-// Cb or Cr, by the row of its colour, where own is what the colour's weight leaves of 10000. One multiplication for a division: the
-// step is rounded down, and what that makes in all never reaches the next word.
-fn colour_difference(row: [i64; 3], triple: [i64; 3], own: i64, s: u16) -> u64
-    requires { ⌜ Small row triple × (pos 0 <ℤ own) × (natAbs own ≤ 9500) × (s ≤ 16) × (natAbs (dotted row triple) ≤ 2 ^ 25) × (224 * natAbs (dotted row triple) ≤ 128 * s * (219 * 2 * natAbs own)) ⌝ }
-    ensures { λ r. ⌜ r ≡ whole (rounded (colourDifference (dotted row triple) (natAbs own) s)) ⌝ }
+// Cb or Cr of 10000 times what Y' is above the colour, where own is what the colour's weight leaves of 10000. One multiplication
+// for a division: the step is rounded down, and what that makes in all never reaches the next word.
+fn colour_difference(above: i64, own: i64, s: u16) -> u64
+    requires { ⌜ (pos 0 <ℤ own) × (natAbs own ≤ 9500) × (s ≤ 16) × (natAbs above ≤ 2 ^ 25) × (224 * natAbs above ≤ 128 * s * (219 * 2 * natAbs own)) ⌝ }
+    ensures { λ r. ⌜ r ≡ whole (rounded (colourDifference above (natAbs own) s)) ⌝ }
 {
     let middle = (Range::MIDDLE * s) as i64;
     let step = DIFFERENCE_STEPS * PARTS / (STEPS * 2 * own);
-    let parts = (2 * middle + 1) * (PARTS / 2) + COVER - dot(row, triple) * step;
+    let parts = (2 * middle + 1) * (PARTS / 2) + COVER - above * step;
     parts as u64 / PARTS as u64
 }
 
-// 10000 times Y', Y' - B and Y' - R of (R, G, B): an entry that rows share is multiplied once.
+// 10000 times Y', B and R of (R, G, B).
 fn encoding(x: Matrix) -> [[i64; 3]; 3]
     ensures { λ r. ⌜ r ≡ encodingRows x ⌝ }
 {
     let w = x.weights();
-    [
-        [w.kr, w.kg, w.kb],
-        [w.kr, w.kg, w.kb - ONE],
-        [w.kr - ONE, w.kg, w.kb],
-    ]
+    [[w.kr, w.kg, w.kb], [0, 0, ONE], [ONE, 0, 0]]
 }
 
 fn codes_in(x: Matrix, s: u16, w: Words) -> Clipped

@@ -5,10 +5,9 @@ use native.Mathlib.Omega.{arith}
 use lib.IntN.{ℤ, pos, natAbs, _*ℤ_}
 use mir.Syntax.{w64}
 use mir.Val.{toZ, ofZ}
-use mir.ValLaws.{toZ-ofZ, toZ-pos}
-use borrow.Author.Needs.{needs, sfits-of}
+use mir.ValLaws.{toZ-pos}
+use borrow.Author.Needs.{needs}
 use Rattle.exact.proofs.Machine.{natAbs-mul, fits-i64, reads-back, positive}
-use Rattle.matrix.specs.Rows.{dotted}
 use Rattle.matrix.proofs.Parts.{Counted, step, start, counted, taken-small}
 use Rattle.matrix.proofs.colour_difference.Statement.{statement}
 use Rattle.matrix.proofs.colour_difference.Tie as tie
@@ -24,20 +23,23 @@ module _ (s : tie.Start) where
   m = 128 * s .args .s
 
   abbrev z : ℤ
-  z = dotted (s .args .row) (s .args .triple)
+  z = s .args .above
 
   -- what z takes off
   abbrev taken : ℤ
   taken = z *ℤ pos (step bottom)
 
   own-positive : 0 < own
-  own-positive = positive (s .args .own) (s .pre .1) .1
+  own-positive = positive (s .args .own) (s .pre .0) .1
 
   parts : Counted z m bottom
-  parts = counted m bottom (omega arith) (omega (arith, own-positive)) (omega arith) z (s .pre .4) (s .pre .5)
+  parts = counted m bottom (omega arith) (omega (arith, own-positive)) (omega arith) z (s .pre .3) (s .pre .4)
+
+  z-read : toZ w64 (ofZ w64 z) ≡ z
+  z-read = reads-back z (omega arith)
 
   own-read : toZ w64 (ofZ w64 (s .args .own)) ≡ pos own
-  own-read = reads-back (s .args .own) (omega arith) ∙ positive (s .args .own) (s .pre .1) .0
+  own-read = reads-back (s .args .own) (omega arith) ∙ positive (s .args .own) (s .pre .0) .0
 
   bottom-read : toZ w64 bottom ≡ pos bottom
   bottom-read = toZ-pos w64 bottom (omega arith)
@@ -64,16 +66,13 @@ module _ (s : tie.Start) where
   start-read = toZ-pos w64 (start m) (omega arith)
 
   taken-fits : natAbs taken < 2 ^ 63
-  taken-fits = omega (arith, natAbs-mul z (pos (step bottom)), taken-small m bottom (omega arith) (omega (arith, own-positive)) (omega arith) (natAbs z) (s .pre .5))
+  taken-fits = omega (arith, natAbs-mul z (pos (step bottom)), taken-small m bottom (omega arith) (omega (arith, own-positive)) (omega arith) (natAbs z) (s .pre .4))
 
   taken-read : toZ w64 (ofZ w64 taken) ≡ taken
   taken-read = reads-back taken taken-fits
 
   parts-read : toZ w64 (parts .value) ≡ pos (parts .value)
   parts-read = toZ-pos w64 (parts .value) (omega (arith, parts .most))
-
-z-read : (c : tie.After-dot) → toZ w64 (ofZ w64 (c .dot .result)) ≡ z (c .before)
-z-read c = toZ-ofZ w64 (c .dot .result) (sfits-of (c .dot .ok)) ∙ c .dot .ensures
 
 mul-middle : tie.Need-mul-middle
 mul-middle c = search needs
@@ -110,25 +109,19 @@ mul-parts-2 c = rw (m-read c, twice-read c, odd-read c) (fits-i64 (pos ((2 * m c
 add-parts-2 : tie.Need-add-parts-2
 add-parts-2 c = rw (m-read c, twice-read c, odd-read c, half-read c) (fits-i64 (pos (start (m c))) (omega arith))
 
-dot-requires : tie.Need-dot-requires
-dot-requires c κs = search needs
-
 mul-parts-3 : tie.Need-mul-parts-3
 mul-parts-3 c =
-    let s = c .before in
-    rw (z-read c, own-read s, bottom-read s, step-read s) (fits-i64 (taken s) (taken-fits s))
+    rw (z-read c, own-read c, bottom-read c, step-read c) (fits-i64 (taken c) (taken-fits c))
 
 sub-parts : tie.Need-sub-parts
 sub-parts c =
-    let s = c .before in
-    rw (z-read c, own-read s, bottom-read s, step-read s, m-read s, twice-read s, odd-read s, half-read s, start-read s, taken-read s, parts s .is)
-    (fits-i64 (pos (parts s .value)) (omega (arith, parts s .most)))
+    rw (z-read c, own-read c, bottom-read c, step-read c, m-read c, twice-read c, odd-read c, half-read c, start-read c, taken-read c, parts c .is)
+    (fits-i64 (pos (parts c .value)) (omega (arith, parts c .most)))
 
 cast-result : tie.Need-cast-result
 cast-result c =
-    let s = c .before in
-    rw (z-read c, own-read s, bottom-read s, step-read s, m-read s, twice-read s, odd-read s, half-read s, start-read s, taken-read s, parts s .is, parts-read s)
-    (tt, record { fits = omega (arith, parts s .most) })
+    rw (z-read c, own-read c, bottom-read c, step-read c, m-read c, twice-read c, odd-read c, half-read c, start-read c, taken-read c, parts c .is, parts-read c)
+    (tt, record { fits = omega (arith, parts c .most) })
 
 cast-result-2 : tie.Need-cast-result-2
 cast-result-2 c = search needs
@@ -138,9 +131,8 @@ div-result c = search needs
 
 returns : tie.Need-returns
 returns c =
-    let s = c .before in
-    rw (z-read c, own-read s, bottom-read s, step-read s, m-read s, twice-read s, odd-read s, half-read s, start-read s, taken-read s, parts s .is, parts-read s)
-    (parts s .quotient)
+    rw (z-read c, own-read c, bottom-read c, step-read c, m-read c, twice-read c, odd-read c, half-read c, start-read c, taken-read c, parts c .is, parts-read c)
+    (parts c .quotient)
 
 pub colour-difference-spec : {M : Type 1} → statement M
 colour-difference-spec =
@@ -157,7 +149,6 @@ colour-difference-spec =
     div-parts
     mul-parts-2
     add-parts-2
-    dot-requires
     mul-parts-3
     sub-parts
     cast-result

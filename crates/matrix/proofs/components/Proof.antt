@@ -1,56 +1,101 @@
 use mathlib.Core.Path.{_≡_, refl, _∙_}
-use mathlib.Core.List.{[], _∷_}
-use mathlib.Core.Logic.{_⊎_, inl, inr}
-use Prim.Native.Nat.{_-_, _^_, _<_}
+use mathlib.Core.List.{List, [], _∷_}
+use mathlib.Core.Logic.{inl, inr}
+use Prim.Native.Nat.{ℕ, _*_, _-_, _^_, _≤_}
 use native.Mathlib.Omega.{arith}
 use lib.Dec.{lit<}
-use lib.IntN.{pos, natAbs, _-ℤ_}
+use lib.IntN.{ℤ, pos, natAbs, _-ℤ_}
 use lib.ListN.{getD}
 use mir.Syntax.{w64}
-use mir.Val.{toZ, ofZ}
+use mir.Val.{SFits, toZ, ofZ}
 use mir.ValLaws.{toZ-ofZ, toZ-pos}
 use borrow.Author.Needs.{needs, sfits-of}
-use Rattle.exact.specs.Signed.{rounded}
-use Rattle.exact.specs.Whole.{INT}
-use Rattle.systems.specs.declared.Matrix.{Matrix}
-use Rattle.systems.specs.declared.Matrix.the-variants.{Bt709, Bt2020}
+use Rattle.exact.proofs.Machine.{fits-i64, reads-back}
+use Rattle.systems.specs.declared.Codes.{Codes}
 use Rattle.systems.specs.Systems.{kr, kb}
-use Rattle.matrix.specs.Rows.{Small, dotted, colourDifference}
-use Rattle.matrix.specs.Triples.{weighted, whole}
-use Rattle.matrix.proofs.Weights.{Row, row-of}
-use Rattle.matrix.proofs.WayThere.{Ready, row, triple, luma-row, luma-ready, blue-ready, red-ready, rows-give-components}
+use Rattle.matrix.specs.Rows.{Small, triple, dotted}
+use Rattle.matrix.specs.Triples.{weighted}
+use Rattle.matrix.proofs.Weights.{row-of}
+use Rattle.matrix.proofs.WayThere.{Ready, column, row, above, rows-give, rows-small, luma-small, blue-ready, red-ready, gives-components}
 use Rattle.matrix.proofs.components.Statement.{statement}
 use Rattle.matrix.proofs.components.Tie as tie
 
 module _ (s : tie.Start) where
-  r-read : toZ w64 (s .args .c .r) ≡ pos (s .args .c .r)
-  r-read = toZ-pos w64 (s .args .c .r) (omega (arith, s .pre .1 .r-high))
+  abbrev codes : Codes
+  codes = triple (s .args .t3)
 
-  g-read : toZ w64 (s .args .c .g) ≡ pos (s .args .c .g)
-  g-read = toZ-pos w64 (s .args .c .g) (omega (arith, s .pre .1 .g-high))
+  abbrev multiplied : List ℤ
+  multiplied = toZ w64 (codes .r) ∷ toZ w64 (codes .g) ∷ toZ w64 (codes .b) ∷ []
 
-  b-read : toZ w64 (s .args .c .b) ≡ pos (s .args .c .b)
-  b-read = toZ-pos w64 (s .args .c .b) (omega (arith, s .pre .1 .b-high))
+  column-read : multiplied ≡ column codes
+  column-read =
+      let n = s .pre .1 in
+      λ i. toZ-pos w64 (codes .r) (omega (arith, n)) i ∷ toZ-pos w64 (codes .g) (omega (arith, n)) i ∷ toZ-pos w64 (codes .b) (omega (arith, n)) i ∷ []
 
-  luma : Small (row (s .args .x) 0) (triple (s .args .c)) × (weighted (s .args .x) (s .args .c) < 2 ^ 40)
-  luma = luma-ready (s .args .s) (s .args .c) (s .pre .0) (s .pre .1) (s .args .x)
+  small : Small (row (s .args .x) 0) (column codes) × Small (row (s .args .x) 1) (column codes) × Small (row (s .args .x) 2) (column codes)
+  small = rows-small (s .args .s) codes (s .pre .0) (s .pre .1) (s .args .x)
 
-  blue : (x : Matrix) → Ready (row x 1) (triple (s .args .c)) (10000 - kb x) (s .args .s)
-  blue = blue-ready (s .args .s) (s .args .c) (s .pre .0) (s .pre .1)
+  blue : Ready (above (s .args .x) codes (codes .b)) (10000 - kb (s .args .x)) (s .args .s)
+  blue = blue-ready (s .args .s) codes (s .pre .0) (s .pre .1) (s .args .x)
 
-  red : (x : Matrix) → Ready (row x 2) (triple (s .args .c)) (10000 - kr x) (s .args .s)
-  red = red-ready (s .args .s) (s .args .c) (s .pre .0) (s .pre .1)
+  red : Ready (above (s .args .x) codes (codes .r)) (10000 - kr (s .args .x)) (s .args .s)
+  red = red-ready (s .args .s) codes (s .pre .0) (s .pre .1) (s .args .x)
 
-weights : (c : tie.After-weights) → Row Bt709 (c .before .args .x) (c .weights .result) ⊎ Row Bt2020 (c .before .args .x) (c .weights .result)
-weights c = row-of (c .before .args .x) (c .weights .result) (c .weights .ensures)
+-- ---- what is read
+-- an i64 holds d, which is z
+abbrev Reads : ℤ → ℤ → Type 0
+Reads d z = SFits w64 d × (toZ w64 (ofZ w64 d) ≡ z)
 
-luma-read : (c : tie.After-dot) →
-    let s = c .before .before .before .before .before .before .before in
-    toZ w64 (ofZ w64 (c .dot .result)) ≡ pos (weighted (s .args .x) (s .args .c))
-luma-read c =
-    let e = c .before .before .before .before .before in
-    let s = e .before .before in
-    toZ-ofZ w64 (c .dot .result) (sfits-of (c .dot .ok)) ∙ c .dot .ensures ∙ (rw (e .encoding .ensures, r-read s, g-read s, b-read s) (luma-row (s .args .x) (s .args .c)))
+-- what a weight leaves of 10000
+abbrev Left : ℤ → ℕ → Type 0
+Left w k = Reads (pos 10000 -ℤ toZ w64 (ofZ w64 w)) (pos (10000 - k))
+
+left : (c : tie.After-weights) → Left (c .weights .result .kb) (kb (c .before .args .x)) × Left (c .weights .result .kr) (kr (c .before .args .x))
+left c = elim (row-of (c .before .args .x) (c .weights .result) (c .weights .ensures)) [
+  | inl e ↦ rw (e .0, e .1) ((record { sfits = lit< tt }, refl), (record { sfits = lit< tt }, refl))
+  | inr e ↦ rw (e .0, e .1) ((record { sfits = lit< tt }, refl), (record { sfits = lit< tt }, refl))
+]
+
+dots : (c : tie.After-encoding) →
+    let s = c .before .before in
+    let rows = c .encoding .result in
+    (dotted (getD rows 0 []) (multiplied s) ≡ pos (weighted (s .args .x) (codes s)))
+    × (dotted (getD rows 1 []) (multiplied s) ≡ pos (10000 * codes s .b))
+    × (dotted (getD rows 2 []) (multiplied s) ≡ pos (10000 * codes s .r))
+dots c =
+    let s = c .before .before in
+    let given = rows-give (s .args .x) (codes s) in (
+      (λ i. dotted (getD (c .encoding .ensures i) 0 []) (column-read s i)) ∙ given .0,
+      (λ i. dotted (getD (c .encoding .ensures i) 1 []) (column-read s i)) ∙ given .1,
+      (λ i. dotted (getD (c .encoding .ensures i) 2 []) (column-read s i)) ∙ given .2,
+    )
+
+luma-read : (c : tie.After-dot) → let s = c .before .before .before .before in toZ w64 (ofZ w64 (c .dot .result)) ≡ pos (weighted (s .args .x) (codes s))
+luma-read c = toZ-ofZ w64 (c .dot .result) (sfits-of (c .dot .ok)) ∙ c .dot .ensures ∙ dots (c .before .before) .0
+
+luma-most : (c : tie.After-dot) → let s = c .before .before .before .before in weighted (s .args .x) (codes s) ≤ 37600000
+luma-most c =
+    let s = c .before .before .before .before in
+    luma-small (s .args .s) (codes s) (s .pre .0) (s .pre .1) (s .args .x)
+
+differs : (l d : ℤ) (a b : ℕ) → l ≡ pos a → d ≡ pos b → natAbs (pos a -ℤ pos b) ≤ 2 ^ 25 → Reads (l -ℤ d) (pos a -ℤ pos b)
+differs l d a b p q h = rw (p, q) (fits-i64 (pos a -ℤ pos b) (omega arith), reads-back (pos a -ℤ pos b) (omega arith))
+
+above-blue : (c : tie.After-dot2) →
+    let luma = c .before .before .before in
+    let s = luma .before .before .before .before in
+    Reads (toZ w64 (ofZ w64 (luma .dot .result)) -ℤ toZ w64 (ofZ w64 (c .dot2 .result))) (above (s .args .x) (codes s) (codes s .b))
+above-blue c =
+    let luma = c .before .before .before in
+    differs _ _ _ _ (luma-read luma) (toZ-ofZ w64 (c .dot2 .result) (sfits-of (c .dot2 .ok)) ∙ c .dot2 .ensures ∙ dots (luma .before .before) .1) (blue (luma .before .before .before .before) .3)
+
+above-red : (c : tie.After-dot3) →
+    let luma = c .before .before .before .before .before .before .before .before in
+    let s = luma .before .before .before .before in
+    Reads (toZ w64 (ofZ w64 (luma .dot .result)) -ℤ toZ w64 (ofZ w64 (c .dot3 .result))) (above (s .args .x) (codes s) (codes s .r))
+above-red c =
+    let luma = c .before .before .before .before .before .before .before .before in
+    differs _ _ _ _ (luma-read luma) (toZ-ofZ w64 (c .dot3 .result) (sfits-of (c .dot3 .ok)) ∙ c .dot3 .ensures ∙ dots (luma .before .before) .2) (red (luma .before .before .before .before) .3)
 
 weights-requires : tie.Need-weights-requires
 weights-requires c κs = search needs
@@ -58,112 +103,97 @@ weights-requires c κs = search needs
 encoding-requires : tie.Need-encoding-requires
 encoding-requires c κs = search needs
 
-cast-int-of-whole : tie.Need-cast-int-of-whole
-cast-int-of-whole c = search needs
+array-read-colour-difference : tie.Need-array-read-colour-difference
+array-read-colour-difference c = search needs
 
 cast-colour-difference : tie.Need-cast-colour-difference
 cast-colour-difference c = search needs
 
+array-read-colour-difference-2 : tie.Need-array-read-colour-difference-2
+array-read-colour-difference-2 c = search needs
+
 cast-colour-difference-2 : tie.Need-cast-colour-difference-2
 cast-colour-difference-2 c = search needs
+
+array-read-colour-difference-3 : tie.Need-array-read-colour-difference-3
+array-read-colour-difference-3 c = search needs
+
+cast-colour-difference-3 : tie.Need-cast-colour-difference-3
+cast-colour-difference-3 c = search needs
 
 array-copy-out-dot : tie.Need-array-copy-out-dot
 array-copy-out-dot c = search needs
 
 dot-requires : tie.Need-dot-requires
 dot-requires c κs =
-    let e = c .before .before .before .before in
-    let s = e .before .before in
-    rw (e .encoding .ensures, r-read s, g-read s, b-read s) (luma s .0)
+    let m = c .before in
+    let s = m .before .before in
+    rw (m .encoding .ensures, column-read s) (small s .0)
+
+cast-int-of-whole : tie.Need-cast-int-of-whole
+cast-int-of-whole c = rw (luma-read c) (tt, record { fits = omega (arith, luma-most c) })
 
 cast-int-of-whole-2 : tie.Need-cast-int-of-whole-2
-cast-int-of-whole-2 c =
-    let s = c .before .before .before .before .before .before .before in
-    rw (luma-read c) (tt, record { fits = omega (arith, luma s .1) })
-
-cast-int-of-whole-3 : tie.Need-cast-int-of-whole-3
-cast-int-of-whole-3 c = search needs
+cast-int-of-whole-2 c = search needs
 
 int-of-whole-requires : tie.Need-int-of-whole-requires
-int-of-whole-requires c κs =
-    let s = c .before .before .before .before .before .before .before in
-    rw (luma-read c) (lit< tt, refl, omega (arith, luma s .1))
+int-of-whole-requires c κs = rw (luma-read c) (lit< tt, refl, omega (arith, luma-most c))
 
-array-copy-out-colour-difference : tie.Need-array-copy-out-colour-difference
-array-copy-out-colour-difference c = search needs
+cast-t28 : tie.Need-cast-t28
+cast-t28 c = search needs
+
+array-copy-out-dot-2 : tie.Need-array-copy-out-dot-2
+array-copy-out-dot-2 c = search needs
+
+dot-requires-2 : tie.Need-dot-requires-2
+dot-requires-2 c κs =
+    let m = c .before .before .before .before in
+    let s = m .before .before in
+    rw (m .encoding .ensures, column-read s) (small s .1)
 
 sub-colour-difference : tie.Need-sub-colour-difference
-sub-colour-difference c = elim (weights (c .before .before .before .before .before .before .before .before .before .before)) [
-  | inl e ↦ rw (e .1) record { sfits = lit< tt }
-  | inr e ↦ rw (e .1) record { sfits = lit< tt }
-]
+sub-colour-difference c = above-blue c .0
+
+sub-colour-difference-2 : tie.Need-sub-colour-difference-2
+sub-colour-difference-2 c = left (c .before .before .before .before .before .before .before .before) .0 .0
 
 colour-difference-requires : tie.Need-colour-difference-requires
 colour-difference-requires c κs =
+    let d = c .before .before in
+    let w = d .before .before .before .before .before .before in
+    rw (left w .0 .1, above-blue d .1) (blue (w .before))
+
+array-copy-out-dot-3 : tie.Need-array-copy-out-dot-3
+array-copy-out-dot-3 c = search needs
+
+dot-requires-3 : tie.Need-dot-requires-3
+dot-requires-3 c κs =
     let m = c .before .before .before .before .before .before .before .before .before in
     let s = m .before .before in
-    elim (weights (m .before)) [
-      | inl e ↦ rw (m .encoding .ensures, e .0, e .1, r-read s, g-read s, b-read s) (blue s Bt709)
-      | inr e ↦ rw (m .encoding .ensures, e .0, e .1, r-read s, g-read s, b-read s) (blue s Bt2020)
-    ]
+    rw (m .encoding .ensures, column-read s) (small s .2)
 
-array-copy-out-colour-difference-2 : tie.Need-array-copy-out-colour-difference-2
-array-copy-out-colour-difference-2 c = search needs
+sub-colour-difference-3 : tie.Need-sub-colour-difference-3
+sub-colour-difference-3 c = above-red c .0
 
-sub-colour-difference-2 : tie.Need-sub-colour-difference-2
-sub-colour-difference-2 c = elim (weights (c .before .before .before .before .before .before .before .before .before .before .before .before .before .before)) [
-  | inl e ↦ rw (e .1) record { sfits = lit< tt }
-  | inr e ↦ rw (e .1) record { sfits = lit< tt }
-]
+sub-colour-difference-4 : tie.Need-sub-colour-difference-4
+sub-colour-difference-4 c = left (c .before .before .before .before .before .before .before .before .before .before .before .before .before) .1 .0
 
 colour-difference-requires-2 : tie.Need-colour-difference-requires-2
 colour-difference-requires-2 c κs =
-    let m = c .before .before .before .before .before .before .before .before .before .before .before .before .before in
-    let s = m .before .before in
-    elim (weights (m .before)) [
-      | inl e ↦ rw (m .encoding .ensures, e .0, e .1, r-read s, g-read s, b-read s) (red s Bt709)
-      | inr e ↦ rw (m .encoding .ensures, e .0, e .1, r-read s, g-read s, b-read s) (red s Bt2020)
-    ]
-
-luma-word : (c : tie.After-int-of-whole) →
-    let s = c .before .before .before .before .before .before .before .before in
-    c .int-of-whole .result ≡ INT (weighted (s .args .x) (s .args .c)) 10000
-luma-word c = c .int-of-whole .ensures ∙ (rw (luma-read (c .before)) refl)
-
--- what the weights of B and R leave of 10000
-own : (c : tie.After-weights) →
-    let x = c .before .args .x in
-    (natAbs (toZ w64 (ofZ w64 (pos 10000 -ℤ toZ w64 (ofZ w64 (c .weights .result .kb))))) ≡ 10000 - kb x)
-    × (natAbs (toZ w64 (ofZ w64 (pos 10000 -ℤ toZ w64 (ofZ w64 (c .weights .result .kr))))) ≡ 10000 - kr x)
-own c = elim (weights c) [
-  | inl e ↦ rw (e .0, e .1) (refl, refl)
-  | inr e ↦ rw (e .0, e .1) (refl, refl)
-]
-
-blue-word : (c : tie.After-colour-difference) →
-    let s = c .before .before .before .before .before .before .before .before .before .before .before .before in
-    c .colour-difference .result ≡ whole (rounded (colourDifference (dotted (row (s .args .x) 1) (triple (s .args .c))) (10000 - kb (s .args .x)) (s .args .s)))
-blue-word c =
-    let m = c .before .before .before .before .before .before .before .before .before .before in
-    let s = m .before .before in
-    c .colour-difference .ensures
-    ∙ (λ i. whole (rounded (colourDifference (dotted (getD (m .encoding .ensures i) 1 []) (r-read s i ∷ g-read s i ∷ b-read s i ∷ [])) (own (m .before) .0 i) (s .args .s))))
-
-red-word : (c : tie.After-colour-difference2) →
-    let s = c .before .before .before .before .before .before .before .before .before .before .before .before .before .before .before .before in
-    c .colour-difference2 .result ≡ whole (rounded (colourDifference (dotted (row (s .args .x) 2) (triple (s .args .c))) (10000 - kr (s .args .x)) (s .args .s)))
-red-word c =
-    let m = c .before .before .before .before .before .before .before .before .before .before .before .before .before .before in
-    let s = m .before .before in
-    c .colour-difference2 .ensures
-    ∙ (λ i. whole (rounded (colourDifference (dotted (getD (m .encoding .ensures i) 2 []) (r-read s i ∷ g-read s i ∷ b-read s i ∷ [])) (own (m .before) .1 i) (s .args .s))))
+    let d = c .before .before in
+    let w = d .before .before .before .before .before .before .before .before .before .before .before in
+    rw (left w .1 .1, above-red d .1) (red (w .before))
 
 returns : tie.Need-returns
 returns c =
-    let b = c .before .before .before .before in
-    let y = b .before .before .before .before in
-    let s = y .before .before .before .before .before .before .before .before in
-    (λ i. luma-word y i ∷ blue-word b i ∷ red-word c i ∷ []) ∙ rows-give-components (s .args .x) (s .args .s) (s .args .c)
+    let r = c .before .before .before in
+    let cb = r .before .before in
+    let b = cb .before .before .before in
+    let y = b .before .before in
+    let w = y .before .before .before .before in
+    let s = w .before in
+    rw (y .int-of-whole .ensures, cb .colour-difference .ensures, c .colour-difference2 .ensures, left w .0 .1, left w .1 .1, above-blue b .1, above-red r .1, luma-read (y .before))
+    (gives-components (s .args .x) (s .args .s) (codes s))
 
 pub components-spec : {M : Type 1} → statement M
 components-spec =
@@ -171,18 +201,26 @@ components-spec =
     (tie.spec
     weights-requires
     encoding-requires
-    cast-int-of-whole
+    array-read-colour-difference
     cast-colour-difference
+    array-read-colour-difference-2
     cast-colour-difference-2
+    array-read-colour-difference-3
+    cast-colour-difference-3
     array-copy-out-dot
     dot-requires
+    cast-int-of-whole
     cast-int-of-whole-2
-    cast-int-of-whole-3
     int-of-whole-requires
-    array-copy-out-colour-difference
+    cast-t28
+    array-copy-out-dot-2
+    dot-requires-2
     sub-colour-difference
-    colour-difference-requires
-    array-copy-out-colour-difference-2
     sub-colour-difference-2
+    colour-difference-requires
+    array-copy-out-dot-3
+    dot-requires-3
+    sub-colour-difference-3
+    sub-colour-difference-4
     colour-difference-requires-2
     returns)

@@ -1,13 +1,13 @@
 use mathlib.Core.Path.{_≡_, sym}
 use native.Mathlib.Omega.{arith}
 use borrow.Author.Needs.{needs}
-use Rattle.matrix.specs.Rows.{componentsAt}
+use Rattle.matrix.specs.Rows.{triple, componentsAt}
 use Rattle.matrix.proofs.Nominal.{WordsOf, words-of, words-are}
 use Rattle.matrix.proofs.words_in.Statement.{statement}
 use Rattle.matrix.proofs.words_in.Tie as tie
 
-values : (c : tie.Start) → WordsOf (c .args .x) (c .args .s) (c .args .c)
-values c = words-of (c .args .x) (c .args .s) (c .args .c) (c .pre .1)
+values : (c : tie.Start) → WordsOf (c .args .x) (c .args .s) (triple (c .args .c))
+values c = words-of (c .args .x) (c .args .s) (triple (c .args .c)) (c .pre .1)
 
 components-requires : tie.Need-components-requires
 components-requires c κs = search needs
@@ -38,7 +38,7 @@ unfolding componentsAt
 returns c =
     let s = c .before in
     let v = values s in
-    rw (c .components .ensures, v .y .is, v .cb .is, v .cr .is) (sym (words-are (s .args .x) (s .args .s) (s .args .c) v))
+    rw (c .components .ensures, v .y .is, v .cb .is, v .cr .is) (sym (words-are (s .args .x) (s .args .s) (triple (s .args .c)) v))
 
 pub words-in-spec : {M : Type 1} → statement M
 words-in-spec =

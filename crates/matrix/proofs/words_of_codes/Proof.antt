@@ -1,9 +1,16 @@
-use mathlib.Core.Path.{_∙_, sym}
+use mathlib.Core.Path.{_≡_, _∙_, sym}
+use mathlib.Core.Bool.{true}
 use borrow.Author.Needs.{needs}
+use Rattle.systems.specs.Systems.{nominal, allWithin}
 use Rattle.systems.proofs.Scales.{scale-range}
 use Rattle.matrix.proofs.Tested.{nominal-codes}
 use Rattle.matrix.proofs.words_of_codes.Statement.{statement}
 use Rattle.matrix.proofs.words_of_codes.Tie as tie
+
+passed : (c : tie.Then1) →
+    let named = c .before .before .before .before in
+    allWithin (nominal (named .y .given .0 .0)) (named .before .before .before .args .codes) ≡ true
+passed c = rw (c .before .before .nominal .ensures) at (sym (c .before .all-in .ensures) ∙ c .if1 .taken)
 
 from-number-requires : tie.Need-from-number-requires
 from-number-requires c κs = search needs
@@ -17,6 +24,15 @@ nominal-requires c κs = search needs
 all-in-requires : tie.Need-all-in-requires
 all-in-requires c κs = search needs
 
+cast-t10 : tie.Need-cast-t10
+cast-t10 c = search needs
+
+cast-t11 : tie.Need-cast-t11
+cast-t11 c = search needs
+
+cast-t12 : tie.Need-cast-t12
+cast-t12 c = search needs
+
 matrix-requires : tie.Need-matrix-requires
 matrix-requires c κs = search needs
 
@@ -25,19 +41,19 @@ scale-requires c κs = search needs
 
 words-in-requires : tie.Need-words-in-requires
 words-in-requires c κs =
-    let tested = c .before .before .before in
-    let named = tested .before .before .before in
+    let taken = c .before .before .before .before .before in
+    let named = taken .before .before .before .before in
     let y = named .y .given .0 .0 in
-    rw (c .scale .ensures) (scale-range y .1, nominal-codes y (named .before .before .before .args .codes) (rw (tested .before .nominal .ensures) at (sym (tested .all-in .ensures) ∙ c .before .before .if1 .taken)))
+    rw (c .scale .ensures) (scale-range y .1, nominal-codes y (named .before .before .before .args .codes) (passed taken))
 
 enum-told : tie.Need-enum-told
 enum-told c = search needs
 
 returns : tie.Need-returns
 returns c =
-    let tested = c .before .before .before .before in
-    let named = tested .before .before .before in
-    rw (sym (named .before .before .from-number .ensures), named .y .given .1, rw (tested .before .nominal .ensures) at (sym (tested .all-in .ensures) ∙ c .before .before .before .if1 .taken), c .words-in .ensures, c .before .scale .ensures, c .before .before .matrix .ensures)
+    let taken = c .before .before .before .before .before .before in
+    let named = taken .before .before .before .before in
+    rw (sym (named .before .before .from-number .ensures), named .y .given .1, passed taken, c .words-in .ensures, c .before .scale .ensures, c .before .before .matrix .ensures)
 
 returns-2 : tie.Need-returns-2
 returns-2 c =
@@ -55,6 +71,9 @@ words-of-codes-spec =
     enum-known-y
     nominal-requires
     all-in-requires
+    cast-t10
+    cast-t11
+    cast-t12
     matrix-requires
     scale-requires
     words-in-requires

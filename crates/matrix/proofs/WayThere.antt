@@ -17,7 +17,7 @@ use Rattle.exact.proofs.Rounding.{rounded-whole}
 use Rattle.systems.specs.declared.Codes.{Codes}
 use Rattle.systems.specs.declared.Matrix.{Matrix}
 use Rattle.systems.specs.declared.Matrix.the-variants.{Bt709, Bt2020}
-use Rattle.systems.specs.Systems.{kr, kg, kb}
+use Rattle.systems.specs.Systems.{kr, kb}
 use Rattle.matrix.specs.Triples.{weighted, whole}
 use Rattle.matrix.specs.Rows.{NominalCodes, Small, dotted, encodingRows, colourDifference, componentsAt}
 
@@ -69,13 +69,13 @@ abbrev pub Ready : ℤ → ℕ → ℕ → Type 0
 Ready z own s = (pos 0 <ℤ pos own) × (own ≤ 9500) × (s ≤ 16) × (natAbs z ≤ 2 ^ 25) × (224 * natAbs z ≤ 128 * s * (219 * 2 * own))
 
 module _ (s : ℕ) (c : Codes) (S : s ≤ 16) (n : NominalCodes s c) where
-  small : (a b d : ℕ) → a ≤ 10000 → b ≤ 10000 → d ≤ 10000 → Small (pos a ∷ pos b ∷ pos d ∷ []) (column c)
-  small a b d ha hb hd = record { row-0 = omega arith; row-1 = omega arith; row-2 = omega arith; triple-0 = omega (arith, n); triple-1 = omega (arith, n); triple-2 = omega (arith, n) }
+  small : (a b d : ℕ) → a + b + d ≤ 10000 → Small (pos a ∷ pos b ∷ pos d ∷ []) (column c)
+  small a b d h = record { row-0 = omega arith; row-1 = omega arith; row-2 = omega arith; triple-0 = omega (arith, n); triple-1 = omega (arith, n); triple-2 = omega (arith, n) }
 
   pub rows-small : (x : Matrix) → Small (row x 0) (column c) × Small (row x 1) (column c) × Small (row x 2) (column c)
   unfolding encodingRows
-  rows-small Bt709 = (small _ _ _ (lit≤ tt) (lit≤ tt) (lit≤ tt), small _ _ _ (lit≤ tt) (lit≤ tt) (lit≤ tt), small _ _ _ (lit≤ tt) (lit≤ tt) (lit≤ tt))
-  rows-small Bt2020 = (small _ _ _ (lit≤ tt) (lit≤ tt) (lit≤ tt), small _ _ _ (lit≤ tt) (lit≤ tt) (lit≤ tt), small _ _ _ (lit≤ tt) (lit≤ tt) (lit≤ tt))
+  rows-small Bt709 = (small _ _ _ (lit≤ tt), small _ _ _ (lit≤ tt), small _ _ _ (lit≤ tt))
+  rows-small Bt2020 = (small _ _ _ (lit≤ tt), small _ _ _ (lit≤ tt), small _ _ _ (lit≤ tt))
 
   pub luma-small : (x : Matrix) → weighted x c ≤ 10000 * 3760
   luma-small Bt709 = omega (arith, n)

@@ -16,7 +16,7 @@ use Rattle.systems.specs.Systems.{kr, kb}
 use Rattle.matrix.specs.Rows.{Small, triple, dotted}
 use Rattle.matrix.specs.Triples.{weighted}
 use Rattle.matrix.proofs.Weights.{row-of}
-use Rattle.matrix.proofs.WayThere.{Ready, column, row, above, rows-give, rows-small, luma-small, blue-ready, red-ready, gives-components}
+use Rattle.matrix.proofs.WayThere.{Ready, column, above, rows-give, rows-small, luma-small, blue-ready, red-ready, gives-components}
 use Rattle.matrix.proofs.components.Statement.{statement}
 use Rattle.matrix.proofs.components.Tie as tie
 
@@ -32,8 +32,8 @@ module _ (s : tie.Start) where
       let n = s .pre .1 in
       λ i. toZ-pos w64 (codes .r) (omega (arith, n)) i ∷ toZ-pos w64 (codes .g) (omega (arith, n)) i ∷ toZ-pos w64 (codes .b) (omega (arith, n)) i ∷ []
 
-  small : Small (row (s .args .x) 0) (column codes) × Small (row (s .args .x) 1) (column codes) × Small (row (s .args .x) 2) (column codes)
-  small = rows-small (s .args .s) codes (s .pre .0) (s .pre .1) (s .args .x)
+  luma : weighted (s .args .x) codes ≤ 10000 * 3760
+  luma = luma-small (s .args .s) codes (s .pre .0) (s .pre .1) (s .args .x)
 
   blue : Ready (above (s .args .x) codes (codes .b)) (10000 - kb (s .args .x)) (s .args .s)
   blue = blue-ready (s .args .s) codes (s .pre .0) (s .pre .1) (s .args .x)
@@ -56,6 +56,14 @@ left c = elim (row-of (c .before .args .x) (c .weights .result) (c .weights .ens
   | inr e ↦ rw (e .0, e .1) ((record { sfits = lit< tt }, refl), (record { sfits = lit< tt }, refl))
 ]
 
+small : (c : tie.After-encoding) →
+    let t = multiplied (c .before .before) in
+    let rows = c .encoding .result in
+    Small (getD rows 0 []) t × Small (getD rows 1 []) t × Small (getD rows 2 []) t
+small c =
+    let s = c .before .before in
+    rw (c .encoding .ensures, column-read s) (rows-small (s .args .s) (codes s) (s .pre .0) (s .pre .1) (s .args .x))
+
 dots : (c : tie.After-encoding) →
     let s = c .before .before in
     let rows = c .encoding .result in
@@ -72,11 +80,6 @@ dots c =
 
 luma-read : (c : tie.After-dot) → let s = c .before .before .before .before in toZ w64 (ofZ w64 (c .dot .result)) ≡ pos (weighted (s .args .x) (codes s))
 luma-read c = toZ-ofZ w64 (c .dot .result) (sfits-of (c .dot .ok)) ∙ c .dot .ensures ∙ dots (c .before .before) .0
-
-luma-most : (c : tie.After-dot) → let s = c .before .before .before .before in weighted (s .args .x) (codes s) ≤ 37600000
-luma-most c =
-    let s = c .before .before .before .before in
-    luma-small (s .args .s) (codes s) (s .pre .0) (s .pre .1) (s .args .x)
 
 differs : (l d : ℤ) (a b : ℕ) → l ≡ pos a → d ≡ pos b → natAbs (pos a -ℤ pos b) ≤ 2 ^ 25 → Reads (l -ℤ d) (pos a -ℤ pos b)
 differs l d a b p q h = rw (p, q) (fits-i64 (pos a -ℤ pos b) (omega arith), reads-back (pos a -ℤ pos b) (omega arith))
@@ -125,19 +128,16 @@ array-copy-out-dot : tie.Need-array-copy-out-dot
 array-copy-out-dot c = search needs
 
 dot-requires : tie.Need-dot-requires
-dot-requires c κs =
-    let m = c .before in
-    let s = m .before .before in
-    rw (m .encoding .ensures, column-read s) (small s .0)
+dot-requires c κs = small (c .before) .0
 
 cast-int-of-whole : tie.Need-cast-int-of-whole
-cast-int-of-whole c = rw (luma-read c) (tt, record { fits = omega (arith, luma-most c) })
+cast-int-of-whole c = rw (luma-read c) (tt, record { fits = omega (arith, luma (c .before .before .before .before)) })
 
 cast-int-of-whole-2 : tie.Need-cast-int-of-whole-2
 cast-int-of-whole-2 c = search needs
 
 int-of-whole-requires : tie.Need-int-of-whole-requires
-int-of-whole-requires c κs = rw (luma-read c) (lit< tt, refl, omega (arith, luma-most c))
+int-of-whole-requires c κs = rw (luma-read c) (lit< tt, refl, omega (arith, luma (c .before .before .before .before)))
 
 cast-t28 : tie.Need-cast-t28
 cast-t28 c = search needs
@@ -146,10 +146,7 @@ array-copy-out-dot-2 : tie.Need-array-copy-out-dot-2
 array-copy-out-dot-2 c = search needs
 
 dot-requires-2 : tie.Need-dot-requires-2
-dot-requires-2 c κs =
-    let m = c .before .before .before .before in
-    let s = m .before .before in
-    rw (m .encoding .ensures, column-read s) (small s .1)
+dot-requires-2 c κs = small (c .before .before .before .before) .1
 
 sub-colour-difference : tie.Need-sub-colour-difference
 sub-colour-difference c = above-blue c .0
@@ -167,10 +164,7 @@ array-copy-out-dot-3 : tie.Need-array-copy-out-dot-3
 array-copy-out-dot-3 c = search needs
 
 dot-requires-3 : tie.Need-dot-requires-3
-dot-requires-3 c κs =
-    let m = c .before .before .before .before .before .before .before .before .before in
-    let s = m .before .before in
-    rw (m .encoding .ensures, column-read s) (small s .2)
+dot-requires-3 c κs = small (c .before .before .before .before .before .before .before .before .before) .2
 
 sub-colour-difference-3 : tie.Need-sub-colour-difference-3
 sub-colour-difference-3 c = above-red c .0

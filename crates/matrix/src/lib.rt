@@ -49,7 +49,7 @@ const STEPS: i64 = (Range::WHITE - Range::BLACK) as i64;
 const DIFFERENCE_STEPS: i64 = (Range::DIFFERENCE_PEAK - Range::BLACK) as i64;
 
 // Parts of a word in which a colour difference is counted: a power of 2, by which a division is a shift.
-const PARTS: i64 = 1 << 49;
+const PARTS: i64 = 1 << 48;
 
 // The most steps that a colour difference has. Each is off by less than one part, so these parts cover what all are off.
 const COVER: i64 = 1 << 25;

@@ -33,7 +33,7 @@ module _ (s : tie.Start) where
   own-positive = positive (s .args .own) (s .pre .0) .1
 
   parts : Counted z m bottom
-  parts = counted m bottom (omega arith) (omega (arith, own-positive)) (omega arith) z (s .pre .3) (s .pre .4)
+  parts = counted m bottom (omega arith) (omega (arith, own-positive)) (omega arith) (omega arith) z (s .pre .3) (s .pre .4)
 
   z-read : toZ w64 (ofZ w64 z) ≡ z
   z-read = reads-back z (omega arith)
@@ -44,8 +44,8 @@ module _ (s : tie.Start) where
   bottom-read : toZ w64 bottom ≡ pos bottom
   bottom-read = toZ-pos w64 bottom (omega arith)
 
-  step-small : step bottom ≤ 224 * 2 ^ 49
-  step-small = div-le-self (224 * 2 ^ 49) bottom
+  step-small : step bottom ≤ 224 * 2 ^ 48
+  step-small = div-le-self (224 * 2 ^ 48) bottom
 
   step-read : toZ w64 (step bottom) ≡ pos (step bottom)
   step-read = toZ-pos w64 (step bottom) (omega (arith, step-small))
@@ -59,14 +59,14 @@ module _ (s : tie.Start) where
   odd-read : toZ w64 (2 * m + 1) ≡ pos (2 * m + 1)
   odd-read = toZ-pos w64 (2 * m + 1) (omega arith)
 
-  half-read : toZ w64 ((2 * m + 1) * 2 ^ 48) ≡ pos ((2 * m + 1) * 2 ^ 48)
-  half-read = toZ-pos w64 ((2 * m + 1) * 2 ^ 48) (omega arith)
+  half-read : toZ w64 ((2 * m + 1) * 2 ^ 47) ≡ pos ((2 * m + 1) * 2 ^ 47)
+  half-read = toZ-pos w64 ((2 * m + 1) * 2 ^ 47) (omega arith)
 
   start-read : toZ w64 (start m) ≡ pos (start m)
   start-read = toZ-pos w64 (start m) (omega arith)
 
   taken-fits : natAbs taken < 2 ^ 63
-  taken-fits = omega (arith, natAbs-mul z (pos (step bottom)), taken-small m bottom (omega arith) (omega (arith, own-positive)) (omega arith) (natAbs z) (s .pre .4))
+  taken-fits = omega (arith, natAbs-mul z (pos (step bottom)), taken-small m bottom (omega arith) (omega (arith, own-positive)) (omega arith) (omega arith) (natAbs z) (s .pre .4))
 
   taken-read : toZ w64 (ofZ w64 taken) ≡ taken
   taken-read = reads-back taken taken-fits
@@ -104,7 +104,7 @@ div-parts : tie.Need-div-parts
 div-parts c = search needs
 
 mul-parts-2 : tie.Need-mul-parts-2
-mul-parts-2 c = rw (m-read c, twice-read c, odd-read c) (fits-i64 (pos ((2 * m c + 1) * 2 ^ 48)) (omega arith))
+mul-parts-2 c = rw (m-read c, twice-read c, odd-read c) (fits-i64 (pos ((2 * m c + 1) * 2 ^ 47)) (omega arith))
 
 add-parts-2 : tie.Need-add-parts-2
 add-parts-2 c = rw (m-read c, twice-read c, odd-read c, half-read c) (fits-i64 (pos (start (m c))) (omega arith))

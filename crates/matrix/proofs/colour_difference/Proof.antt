@@ -1,5 +1,5 @@
 use mathlib.Core.Path.{_≡_, _∙_}
-use Prim.Native.Nat.{ℕ, _+_, _*_, _^_, _≤_, _<_}
+use Prim.Native.Nat.{ℕ, _+_, _*_, _/_, _^_, _≤_, _<_}
 use native.Mathlib.Nat.{div-le-self}
 use native.Mathlib.Omega.{arith}
 use lib.IntN.{ℤ, pos, natAbs, _*ℤ_}
@@ -8,7 +8,7 @@ use mir.Val.{toZ, ofZ}
 use mir.ValLaws.{toZ-pos}
 use borrow.Author.Needs.{needs}
 use Rattle.exact.proofs.Machine.{natAbs-mul, fits-i64, reads-back, positive}
-use Rattle.matrix.proofs.Parts.{Counted, step, start, counted, taken-small}
+use Rattle.matrix.proofs.Parts.{Counted, parts, step, start, counted, taken-small}
 use Rattle.matrix.proofs.colour_difference.Statement.{statement}
 use Rattle.matrix.proofs.colour_difference.Tie as tie
 
@@ -22,21 +22,21 @@ module _ (s : tie.Start) where
   abbrev m : ℕ
   m = 128 * s .args .s
 
-  abbrev z : ℤ
-  z = s .args .above
+  abbrev above : ℤ
+  above = s .args .above
 
-  -- what z takes off
+  -- what the steps take off
   abbrev taken : ℤ
-  taken = z *ℤ pos (step bottom)
+  taken = above *ℤ pos (step bottom)
 
   own-positive : 0 < own
   own-positive = positive (s .args .own) (s .pre .0) .1
 
-  parts : Counted z m bottom
-  parts = counted m bottom (omega arith) (omega (arith, own-positive)) (omega arith) (omega arith) z (s .pre .3) (s .pre .4)
+  total : Counted above m bottom
+  total = counted m bottom (omega arith) (omega (arith, own-positive)) (omega arith) (omega arith) above (s .pre .3) (s .pre .4)
 
-  z-read : toZ w64 (ofZ w64 z) ≡ z
-  z-read = reads-back z (omega arith)
+  above-read : toZ w64 (ofZ w64 above) ≡ above
+  above-read = reads-back above (omega arith)
 
   own-read : toZ w64 (ofZ w64 (s .args .own)) ≡ pos own
   own-read = reads-back (s .args .own) (omega arith) ∙ positive (s .args .own) (s .pre .0) .0
@@ -44,8 +44,8 @@ module _ (s : tie.Start) where
   bottom-read : toZ w64 bottom ≡ pos bottom
   bottom-read = toZ-pos w64 bottom (omega arith)
 
-  step-small : step bottom ≤ 224 * 2 ^ 48
-  step-small = div-le-self (224 * 2 ^ 48) bottom
+  step-small : step bottom ≤ 224 * parts
+  step-small = div-le-self (224 * parts) bottom
 
   step-read : toZ w64 (step bottom) ≡ pos (step bottom)
   step-read = toZ-pos w64 (step bottom) (omega (arith, step-small))
@@ -59,20 +59,20 @@ module _ (s : tie.Start) where
   odd-read : toZ w64 (2 * m + 1) ≡ pos (2 * m + 1)
   odd-read = toZ-pos w64 (2 * m + 1) (omega arith)
 
-  half-read : toZ w64 ((2 * m + 1) * 2 ^ 47) ≡ pos ((2 * m + 1) * 2 ^ 47)
-  half-read = toZ-pos w64 ((2 * m + 1) * 2 ^ 47) (omega arith)
+  half-read : toZ w64 ((2 * m + 1) * (parts / 2)) ≡ pos ((2 * m + 1) * (parts / 2))
+  half-read = toZ-pos w64 ((2 * m + 1) * (parts / 2)) (omega arith)
 
   start-read : toZ w64 (start m) ≡ pos (start m)
   start-read = toZ-pos w64 (start m) (omega arith)
 
   taken-fits : natAbs taken < 2 ^ 63
-  taken-fits = omega (arith, natAbs-mul z (pos (step bottom)), taken-small m bottom (omega arith) (omega (arith, own-positive)) (omega arith) (omega arith) (natAbs z) (s .pre .4))
+  taken-fits = omega (arith, natAbs-mul above (pos (step bottom)), taken-small m bottom (omega arith) (omega (arith, own-positive)) (omega arith) (omega arith) (natAbs above) (s .pre .4))
 
   taken-read : toZ w64 (ofZ w64 taken) ≡ taken
   taken-read = reads-back taken taken-fits
 
-  parts-read : toZ w64 (parts .value) ≡ pos (parts .value)
-  parts-read = toZ-pos w64 (parts .value) (omega (arith, parts .most))
+  total-read : toZ w64 (total .value) ≡ pos (total .value)
+  total-read = toZ-pos w64 (total .value) (omega (arith, total .most))
 
 mul-middle : tie.Need-mul-middle
 mul-middle c = search needs
@@ -104,24 +104,23 @@ div-parts : tie.Need-div-parts
 div-parts c = search needs
 
 mul-parts-2 : tie.Need-mul-parts-2
-mul-parts-2 c = rw (m-read c, twice-read c, odd-read c) (fits-i64 (pos ((2 * m c + 1) * 2 ^ 47)) (omega arith))
+mul-parts-2 c = rw (m-read c, twice-read c, odd-read c) (fits-i64 (pos ((2 * m c + 1) * (parts / 2))) (omega arith))
 
 add-parts-2 : tie.Need-add-parts-2
 add-parts-2 c = rw (m-read c, twice-read c, odd-read c, half-read c) (fits-i64 (pos (start (m c))) (omega arith))
 
 mul-parts-3 : tie.Need-mul-parts-3
-mul-parts-3 c =
-    rw (z-read c, own-read c, bottom-read c, step-read c) (fits-i64 (taken c) (taken-fits c))
+mul-parts-3 c = rw (above-read c, own-read c, bottom-read c, step-read c) (fits-i64 (taken c) (taken-fits c))
 
 sub-parts : tie.Need-sub-parts
 sub-parts c =
-    rw (z-read c, own-read c, bottom-read c, step-read c, m-read c, twice-read c, odd-read c, half-read c, start-read c, taken-read c, parts c .is)
-    (fits-i64 (pos (parts c .value)) (omega (arith, parts c .most)))
+    rw (above-read c, own-read c, bottom-read c, step-read c, m-read c, twice-read c, odd-read c, half-read c, start-read c, taken-read c, total c .is)
+    (fits-i64 (pos (total c .value)) (omega (arith, total c .most)))
 
 cast-result : tie.Need-cast-result
 cast-result c =
-    rw (z-read c, own-read c, bottom-read c, step-read c, m-read c, twice-read c, odd-read c, half-read c, start-read c, taken-read c, parts c .is, parts-read c)
-    (tt, record { fits = omega (arith, parts c .most) })
+    rw (above-read c, own-read c, bottom-read c, step-read c, m-read c, twice-read c, odd-read c, half-read c, start-read c, taken-read c, total c .is, total-read c)
+    (tt, record { fits = omega (arith, total c .most) })
 
 cast-result-2 : tie.Need-cast-result-2
 cast-result-2 c = search needs
@@ -131,8 +130,8 @@ div-result c = search needs
 
 returns : tie.Need-returns
 returns c =
-    rw (z-read c, own-read c, bottom-read c, step-read c, m-read c, twice-read c, odd-read c, half-read c, start-read c, taken-read c, parts c .is, parts-read c)
-    (parts c .quotient)
+    rw (above-read c, own-read c, bottom-read c, step-read c, m-read c, twice-read c, odd-read c, half-read c, start-read c, taken-read c, total c .is, total-read c)
+    (total c .quotient)
 
 pub colour-difference-spec : {M : Type 1} → statement M
 colour-difference-spec =

@@ -8,10 +8,10 @@ use lib.IntN.{ℤ, pos, natAbs, subℕ, _+ℤ_}
 use Rattle.exact.proofs.Difference.{pos-sub, sub-pos, sub-add}
 use Rattle.exact.proofs.Nearest.{Rounds}
 use Rattle.matrix.specs.Triples.{whole}
-use Rattle.matrix.specs.Rows.{parts, raised, lead, counted}
+use Rattle.matrix.specs.Rows.{inParts, raised, lead, counted}
 
 -- divided twice by half of the places
-pub in-two-steps : (t b : ℕ) → 0 < b → t * 2 ^ 24 / b * 2 ^ 24 + t * 2 ^ 24 % b * 2 ^ 24 / b ≡ parts t b
+pub in-two-steps : (t b : ℕ) → 0 < b → t * 2 ^ 24 / b * 2 ^ 24 + t * 2 ^ 24 % b * 2 ^ 24 / b ≡ inParts t b
 in-two-steps t b B =
     let a = t * 2 ^ 24 in
     let q = a / b in
@@ -28,17 +28,17 @@ lifted a b k h =
 module _ (d : ℕ) (D : 0 < d) (D' : d ≤ 2 ^ 34) where
   -- what an entry is short of a fraction, by d
   abbrev short : ℕ → ℕ
-  short a = a * 2 ^ 48 - parts a d * d
+  short a = a * 2 ^ 48 - inParts a d * d
 
-  entry : (a : ℕ) → (parts a d * d + short a ≡ a * 2 ^ 48) × (short a ≤ d)
+  entry : (a : ℕ) → (inParts a d * d + short a ≡ a * 2 ^ 48) × (short a ≤ d)
   entry a =
-      let l : parts a d * d ≤ a * 2 ^ 48 = div-mul-le-self (a * 2 ^ 48) d in
-      let u : a * 2 ^ 48 < parts a d * d + d = lt-div-mul-add D in
+      let l : inParts a d * d ≤ a * 2 ^ 48 = div-mul-le-self (a * 2 ^ 48) d in
+      let u : a * 2 ^ 48 < inParts a d * d + d = lt-div-mul-add D in
       (omega arith, omega arith)
 
-  times : (n a : ℕ) → n * parts a d * d + n * short a ≡ n * a * 2 ^ 48
+  times : (n a : ℕ) → n * inParts a d * d + n * short a ≡ n * a * 2 ^ 48
   times n a =
-      ap (λ (x : ℕ). x + n * short a) (mul-assoc n (parts a d) d) ∙ sym (mul-add n (parts a d * d) (short a))
+      ap (λ (x : ℕ). x + n * short a) (mul-assoc n (inParts a d) d) ∙ sym (mul-add n (inParts a d * d) (short a))
       ∙ ap (λ (x : ℕ). n * x) (entry a .0) ∙ sym (mul-assoc n a (2 ^ 48))
 
   -- what up to 1792 entries more are short
@@ -51,23 +51,23 @@ module _ (d : ℕ) (D : 0 < d) (D' : d ≤ 2 ^ 34) where
   -- Y' and two colour differences, u less v each, by an entry
   module _ (y u v a u' v' a' : ℕ) (U : u ≤ v + 1792) (L : v ≤ u + 1792) (U' : u' ≤ v' + 1792) (L' : v' ≤ u' + 1792) where
     abbrev plus : ℕ
-    plus = 2 ^ 48 * y + u * parts a d + u' * parts a' d
+    plus = 2 ^ 48 * y + u * inParts a d + u' * inParts a' d
 
     abbrev minus : ℕ
-    minus = v * parts a d + v' * parts a' d
+    minus = v * inParts a d + v' * inParts a' d
 
     -- what the parts come to, by d
     plus-by : (plus + lead) * d + (u * short a + u' * short a') ≡ 2 ^ 48 * (d * y + u * a + u' * a') + lead * d
     plus-by =
         let e : (plus + lead) * d ≡ plus * d + lead * d = add-mul plus lead d in
-        let f : plus * d ≡ (2 ^ 48 * y + u * parts a d) * d + u' * parts a' d * d = add-mul (2 ^ 48 * y + u * parts a d) (u' * parts a' d) d in
-        let g : (2 ^ 48 * y + u * parts a d) * d ≡ 2 ^ 48 * y * d + u * parts a d * d = add-mul (2 ^ 48 * y) (u * parts a d) d in
+        let f : plus * d ≡ (2 ^ 48 * y + u * inParts a d) * d + u' * inParts a' d * d = add-mul (2 ^ 48 * y + u * inParts a d) (u' * inParts a' d) d in
+        let g : (2 ^ 48 * y + u * inParts a d) * d ≡ 2 ^ 48 * y * d + u * inParts a d * d = add-mul (2 ^ 48 * y) (u * inParts a d) d in
         let h : 2 ^ 48 * y * d ≡ 2 ^ 48 * d * y = mul-right-comm (2 ^ 48) y d in
         omega (arith, times u a, times u' a', mul-assoc (2 ^ 48) d y)
 
     minus-by : minus * d + (v * short a + v' * short a') ≡ 2 ^ 48 * (v * a + v' * a')
     minus-by =
-        let e : minus * d ≡ v * parts a d * d + v' * parts a' d * d = add-mul (v * parts a d) (v' * parts a' d) d in
+        let e : minus * d ≡ v * inParts a d * d + v' * inParts a' d * d = add-mul (v * inParts a d) (v' * inParts a' d) d in
         omega (arith, times v a, times v' a')
 
     pub row-rounds : (p n : ℕ) (z : ℤ) (r : Rounds p n d z) → p ≡ d * y + u * a + u' * a' → n ≡ v * a + v' * a' → r .down ≤ r .up + 8192 → counted (subℕ plus minus) ≡ raised z

@@ -17,7 +17,7 @@ use Rattle.systems.specs.Systems.{kr, kg, kb}
 use Rattle.exact.specs.Signed.{Ratio, rounded}
 use Rattle.matrix.specs.declared.Words.{Words}
 use Rattle.matrix.specs.Triples.{primary, signed, redOf, greenOf, blueOf}
-use Rattle.matrix.specs.Rows.{NominalWords, Small, dotted, parts, decodingRows, raised, raisedAt, counted}
+use Rattle.matrix.specs.Rows.{NominalWords, Small, dotted, inParts, decodingRows, raised, raisedAt, counted}
 use Rattle.matrix.proofs.Fractions.{signed-by, primary-rounds, green-rounds}
 use Rattle.matrix.proofs.Raised.{green-divisor, rounds-within}
 use Rattle.matrix.proofs.Counted.{row-rounds}
@@ -65,11 +65,11 @@ module _ (x : Matrix) (s : ℕ) (w : Words) (S : s ≤ 16) (n : NominalWords s w
 
   -- R or B: Y' and one colour difference
   one : (v k : ℕ) → 16 * s ≤ v → v ≤ 240 * s → let a = 219 * 2 * (10000 - k) in let r = primary-rounds (w .y) v s k in
-      r .down ≤ r .up + 8192 → (z : ℤ) → z ≡ pos (2 ^ 48 * w .y) +ℤ signed s v *ℤ pos (parts a (224 * 10000)) → counted z ≡ raised (rounded (primary (w .y) (signed s v) k))
+      r .down ≤ r .up + 8192 → (z : ℤ) → z ≡ pos (2 ^ 48 * w .y) +ℤ signed s v *ℤ pos (inParts a (224 * 10000)) → counted z ≡ raised (rounded (primary (w .y) (signed s v) k))
   one v k l h within z is =
       let d : ℕ = 2240000 in
       let a = 438 * (10000 - k) in
-      let e = parts a d in
+      let e = inParts a d in
       let p = 2 ^ 48 * w .y in
       let sum : z ≡ subℕ (p + v * e + 0 * 0) (m * e + 0 * 0) =
       is ∙ (λ i. pos-sub p i +ℤ signed-by s v e i) ∙ sub-add p 0 (v * e) (m * e) ∙ sub-eq (p + v * e) (0 + m * e) (p + v * e + 0 * 0) (m * e + 0 * 0) (omega arith) in
@@ -79,7 +79,7 @@ module _ (x : Matrix) (s : ℕ) (w : Words) (S : s ≤ 16) (n : NominalWords s w
   unfolding decodingRows
   red =
       let c = signed s (w .cr) in
-      let e = parts (438 * (10000 - kr x)) 2240000 in
+      let e = inParts (438 * (10000 - kr x)) 2240000 in
       let p = 2 ^ 48 * w .y in
       one (w .cr) (kr x) (n .cr-low) (n .cr-high) (rounds-within x s w S n .0 .1) (dotted (row x 0) sample)
       ((λ i. pos p +ℤ zero-*ℤ (signed s (w .cb)) i +ℤ *ℤ-comm (pos e) c i) ∙ ap (λ (z : ℤ). z +ℤ c *ℤ pos e) (+ℤ-idr (pos p)))
@@ -88,7 +88,7 @@ module _ (x : Matrix) (s : ℕ) (w : Words) (S : s ≤ 16) (n : NominalWords s w
   unfolding decodingRows
   blue =
       let c = signed s (w .cb) in
-      let e = parts (438 * (10000 - kb x)) 2240000 in
+      let e = inParts (438 * (10000 - kb x)) 2240000 in
       let p = 2 ^ 48 * w .y in
       one (w .cb) (kb x) (n .cb-low) (n .cb-high) (rounds-within x s w S n .2 .1) (dotted (row x 2) sample)
       ((λ i. pos p +ℤ *ℤ-comm (pos e) c i +ℤ zero-*ℤ (signed s (w .cr)) i) ∙ +ℤ-idr (pos p +ℤ c *ℤ pos e))
@@ -100,8 +100,8 @@ module _ (x : Matrix) (s : ℕ) (w : Words) (S : s ≤ 16) (n : NominalWords s w
       let b = 438 * kb x * (10000 - kb x) in
       let r = 438 * kr x * (10000 - kr x) in
       let p = 2 ^ 48 * w .y in
-      let eb = parts b d in
-      let er = parts r d in
+      let eb = inParts b d in
+      let er = inParts r d in
       let vb = w .cb in
       let vr = w .cr in
       let sum : dotted (row x 1) sample ≡ subℕ (p + m * eb + m * er) (vb * eb + vr * er) =

@@ -57,16 +57,16 @@ unfoldable pub componentsAt : Matrix → ℕ → Codes → List ℕ
 componentsAt x s c = whole (rounded (luma x c)) ∷ whole (rounded (cbOf x s c)) ∷ whole (rounded (crOf x s c)) ∷ []
 
 -- a fraction in parts, 2^48 to a code, rounded down
-abbrev pub parts : ℕ → ℕ → ℕ
-parts a d = a * 2 ^ 48 / d
+abbrev pub inParts : ℕ → ℕ → ℕ
+inParts a d = a * 2 ^ 48 / d
 
 -- the way back: by (Y', cb, cr) they give R, G and B in parts, but for what the entries are rounded
 unfoldable pub decodingRows : Matrix → List (List ℤ)
 decodingRows x =
     let y = 224 * 10000 in
-    (pos (2 ^ 48) ∷ pos 0 ∷ pos (parts (219 * 2 * (10000 - kr x)) y) ∷ [])
-    ∷ (pos (2 ^ 48) ∷ negℤ (pos (parts (219 * 2 * kb x * (10000 - kb x)) (y * kg x))) ∷ negℤ (pos (parts (219 * 2 * kr x * (10000 - kr x)) (y * kg x))) ∷ [])
-    ∷ (pos (2 ^ 48) ∷ pos (parts (219 * 2 * (10000 - kb x)) y) ∷ pos 0 ∷ [])
+    (pos (2 ^ 48) ∷ pos 0 ∷ pos (inParts (219 * 2 * (10000 - kr x)) y) ∷ [])
+    ∷ (pos (2 ^ 48) ∷ negℤ (pos (inParts (219 * 2 * kb x * (10000 - kb x)) (y * kg x))) ∷ negℤ (pos (inParts (219 * 2 * kr x * (10000 - kr x)) (y * kg x))) ∷ [])
+    ∷ (pos (2 ^ 48) ∷ pos (inParts (219 * 2 * (10000 - kb x)) y) ∷ pos 0 ∷ [])
     ∷ []
 
 -- a row and a triple whose product an i64 holds

@@ -13,7 +13,7 @@ ghost use lib.Signed.{_<ℤ_};
 ghost use Rattle.exact.specs.Signed.{rounded};
 ghost use Rattle.systems.specs.declared.Matrix.the-variants.{Bt709, Bt2020};
 ghost use Rattle.matrix.specs.Triples.{wordsAt, codesAt, wordsOfCodes, codesOfWords, toldWords, toldCodes, wordsWithin, whole, signed, clipped, beyond};
-ghost use Rattle.matrix.specs.Rows.{triple, NominalCodes, NominalWords, Small, dotted, encodingRows, colourDifference, componentsAt, decodingRows, lowered, raisedAt, parts, counted, Clippable, atLeast, atMost};
+ghost use Rattle.matrix.specs.Rows.{triple, NominalCodes, NominalWords, Small, dotted, encodingRows, colourDifference, componentsAt, decodingRows, lowered, raisedAt, inParts, counted, Clippable, atLeast, atMost};
 
 // Y', Cb and Cr words of a sample.
 #[repr(C)]
@@ -48,22 +48,20 @@ const STEPS: i64 = (Range::WHITE - Range::BLACK) as i64;
 // Words from one end of a colour difference to the other at 8 bits.
 const DIFFERENCE_STEPS: i64 = (Range::DIFFERENCE_PEAK - Range::BLACK) as i64;
 
-// Parts of a word in which a colour difference is counted: a power of 2, by which a division is a shift.
+// Parts of a word or code in which it is counted: a power of 2, by which a division is a shift.
 const PARTS: i64 = 1 << 48;
+
+// By itself it makes PARTS.
+const PARTS_ROOT: u64 = 1 << 24;
 
 // The most steps that a colour difference has. Each is off by less than one part, so these parts cover what all are off.
 const COVER: i64 = 1 << 25;
 
+// The most that cb and cr have together, at least. Their entries are off by less than one part, so these parts cover what both are off.
+const ENTRIES_COVER: i64 = 1 << 12;
+
 // Added to R, G and B until they are clipped, so that a u16 holds them: none that nominal words give is below -RAISE.
 const RAISE: u16 = 16384;
-
-// Parts of a code in which R, G and B are counted.
-const CODE_PARTS: i64 = 1 << 48;
-
-const HALF: u64 = 1 << 24;
-
-// The way back's entries are off by less than one part each, and cb and cr are at most 1792: these parts cover what all are off.
-const CODE_COVER: i64 = 1 << 12;
 
 // The words of a code triple; refused with 1, then 6.
 pub fn words_of_codes(system: u32, codes: Codes) -> Encoded
@@ -191,7 +189,7 @@ fn components(x: Matrix, s: u16, c: [usize; 3]) -> [u64; 3]
     let t = [c[0] as i64, c[1] as i64, c[2] as i64];
     let luma = dot(m[0], t);
     [
-        exact::int_of_whole(luma as u32, ONE as u32) as u64,
+        exact::int_of(luma as u32, ONE as u32) as u64,
         colour_difference(luma - dot(m[1], t), ONE - w.kb, s),
         colour_difference(luma - dot(m[2], t), ONE - w.kr, s),
     ]
@@ -257,8 +255,8 @@ fn primary(row: [i64; 3], triple: [i64; 3]) -> u16
     requires { ⌜ Small row triple × (natAbs (dotted row triple) ≤ 8192 * 2 ^ 48) ⌝ }
     ensures { λ r. ⌜ r ≡ counted (dotted row triple) ⌝ }
 {
-    let parts = dot(row, triple) + (RAISE as i64 * CODE_PARTS + CODE_PARTS / 2 + CODE_COVER);
-    (parts as u64 / CODE_PARTS as u64) as u16
+    let parts = dot(row, triple) + (RAISE as i64 * PARTS + PARTS / 2 + ENTRIES_COVER);
+    (parts as u64 / PARTS as u64) as u16
 }
 
 // A row of a matrix by a triple.
@@ -288,18 +286,18 @@ fn decoding(x: Matrix) -> [[i64; 3]; 3]
     let green_cb = in_parts(cb * w.kb, y * w.kg);
     let green_cr = in_parts(cr * w.kr, y * w.kg);
     [
-        [CODE_PARTS, 0, in_parts(cr, y)],
-        [CODE_PARTS, 0 - green_cb, 0 - green_cr],
-        [CODE_PARTS, in_parts(cb, y), 0],
+        [PARTS, 0, in_parts(cr, y)],
+        [PARTS, 0 - green_cb, 0 - green_cr],
+        [PARTS, in_parts(cb, y), 0],
     ]
 }
 
 // A fraction in parts, rounded down: divided twice by half of the places, since no i64 holds top by all parts.
 fn in_parts(top: i64, bottom: i64) -> i64
     requires { ⌜ (pos 0 <ℤ top) × (pos 0 <ℤ bottom) × (natAbs bottom ≤ 2 ^ 34) × (natAbs top ≤ 2 * natAbs bottom) ⌝ }
-    ensures { λ r. ⌜ r ≡ pos (parts (natAbs top) (natAbs bottom)) ⌝ }
+    ensures { λ r. ⌜ r ≡ pos (inParts (natAbs top) (natAbs bottom)) ⌝ }
 {
-    let t = top as u64 * HALF;
+    let t = top as u64 * PARTS_ROOT;
     let b = bottom as u64;
-    (t / b * HALF + t % b * HALF / b) as i64
+    (t / b * PARTS_ROOT + t % b * PARTS_ROOT / b) as i64
 }

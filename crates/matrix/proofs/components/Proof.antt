@@ -130,14 +130,14 @@ array-copy-out-dot c = search needs
 dot-requires : tie.Need-dot-requires
 dot-requires c κs = small (c .before) .0
 
-cast-int-of-whole : tie.Need-cast-int-of-whole
-cast-int-of-whole c = rw (luma-read c) (tt, record { fits = omega (arith, luma (c .before .before .before .before)) })
+cast-int-of : tie.Need-cast-int-of
+cast-int-of c = rw (luma-read c) (tt, record { fits = omega (arith, luma (c .before .before .before .before)) })
 
-cast-int-of-whole-2 : tie.Need-cast-int-of-whole-2
-cast-int-of-whole-2 c = search needs
+cast-int-of-2 : tie.Need-cast-int-of-2
+cast-int-of-2 c = search needs
 
-int-of-whole-requires : tie.Need-int-of-whole-requires
-int-of-whole-requires c κs = rw (luma-read c) (lit< tt, refl, omega (arith, luma (c .before .before .before .before)))
+int-of-requires : tie.Need-int-of-requires
+int-of-requires c κs = rw (luma-read c) (lit< tt, refl, omega (arith, luma (c .before .before .before .before)))
 
 cast-t28 : tie.Need-cast-t28
 cast-t28 c = search needs
@@ -186,7 +186,7 @@ returns c =
     let y = b .before .before in
     let w = y .before .before .before .before in
     let s = w .before in
-    rw (y .int-of-whole .ensures, cb .colour-difference .ensures, c .colour-difference2 .ensures, left w .0 .1, left w .1 .1, above-blue b .1, above-red r .1, luma-read (y .before))
+    rw (y .int-of .ensures, cb .colour-difference .ensures, c .colour-difference2 .ensures, left w .0 .1, left w .1 .1, above-blue b .1, above-red r .1, luma-read (y .before))
     (gives-components (s .args .x) (s .args .s) (codes s))
 
 pub components-spec : {M : Type 1} → statement M
@@ -203,9 +203,9 @@ components-spec =
     cast-colour-difference-3
     array-copy-out-dot
     dot-requires
-    cast-int-of-whole
-    cast-int-of-whole-2
-    int-of-whole-requires
+    cast-int-of
+    cast-int-of-2
+    int-of-requires
     cast-t28
     array-copy-out-dot-2
     dot-requires-2

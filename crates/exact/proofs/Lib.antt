@@ -7,4 +7,3 @@ pub mod Table
 pub mod Machine
 pub mod Difference
 pub mod Nearest
-pub mod Scaled

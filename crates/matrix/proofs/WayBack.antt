@@ -1,8 +1,8 @@
 -- The rows of the way back, by (Y', cb, cr), are document 01's fractions; and an i64 holds what they come to.
 -- Assumes nothing.
-use mathlib.Core.Path.{_≡_, sym, ap, _∙_}
+use mathlib.Core.Path.{_≡_, refl, sym, ap, _∙_}
 use mathlib.Core.List.{List, [], _∷_}
-use Prim.Native.Nat.{ℕ, _+_, _*_, _-_, _^_, _≤_, _<_}
+use Prim.Native.Nat.{ℕ, _+_, _*_, _-_, _%_, _^_, _≤_, _<_}
 use native.Mathlib.Nat.{mul-le-mul-left}
 use native.Mathlib.Omega.{arith}
 use lib.Dec.{lit≤, lit<}
@@ -17,10 +17,10 @@ use Rattle.systems.specs.Systems.{kr, kg, kb}
 use Rattle.exact.specs.Signed.{Ratio, rounded}
 use Rattle.matrix.specs.declared.Words.{Words}
 use Rattle.matrix.specs.Triples.{primary, signed, redOf, greenOf, blueOf}
-use Rattle.matrix.specs.Rows.{NominalWords, Small, dotted, inParts, decodingRows, raised, raisedAt, counted}
+use Rattle.matrix.specs.Rows.{NominalWords, Small, dotted, parts, inParts, decodingRows, raised, raisedAt, counted}
 use Rattle.matrix.proofs.Fractions.{signed-by, primary-rounds, green-rounds}
 use Rattle.matrix.proofs.Raised.{green-divisor, rounds-within}
-use Rattle.matrix.proofs.Counted.{row-rounds}
+use Rattle.matrix.proofs.Counted.{counted-rounds}
 
 -- the triple that the rows multiply
 abbrev pub triple : ℕ → ℤ → ℤ → List ℤ
@@ -31,12 +31,12 @@ row x k = getD (decodingRows x) k []
 
 -- ---- size
 abbrev pub Ready : List ℤ → List ℤ → Type 0
-Ready r t = Small r t × (natAbs (dotted r t) ≤ 8192 * 2 ^ 48)
+Ready r t = Small r t × (natAbs (dotted r t) ≤ 8192 * parts)
 
 module _ (y : ℕ) (cb cr : ℤ) (Y : y ≤ 3760) (B : natAbs cb ≤ 1792) (R : natAbs cr ≤ 1792) where
-  row-ready : (b r : ℤ) → natAbs b ≤ 2 ^ 49 → natAbs r ≤ 2 ^ 49 → (natAbs b + natAbs r) * 1792 ≤ 4432 * 2 ^ 48 → Ready (pos (2 ^ 48) ∷ b ∷ r ∷ []) (triple y cb cr)
+  row-ready : (b r : ℤ) → natAbs b ≤ 2 ^ 49 → natAbs r ≤ 2 ^ 49 → (natAbs b + natAbs r) * 1792 ≤ 4432 * parts → Ready (pos (parts) ∷ b ∷ r ∷ []) (triple y cb cr)
   row-ready b r b' r' h =
-      let p = 2 ^ 48 in
+      let p = parts in
       let bb : natAbs (b *ℤ cb) ≤ natAbs b * 1792 = natAbs-mul-le b cb (natAbs b) 1792 (omega arith) B in
       let br : natAbs (r *ℤ cr) ≤ natAbs r * 1792 = natAbs-mul-le r cr (natAbs r) 1792 (omega arith) R in
       let s1 : natAbs (pos (p * y) +ℤ b *ℤ cb) ≤ p * y + natAbs (b *ℤ cb) = natAbs-add (pos (p * y)) (b *ℤ cb) in
@@ -52,9 +52,9 @@ pub difference-small : (s w : ℕ) → s ≤ 16 → 16 * s ≤ w → w ≤ 240 *
 difference-small s w S l h = rw (pos-less w (128 * s)) (sub-size w (128 * s) 1792 (omega arith) (omega arith))
 
 -- ---- value
-green-small : (x : Matrix) → 224 * 10000 * kg x ≤ 2 ^ 34
-green-small Bt709 = lit≤ tt
-green-small Bt2020 = lit≤ tt
+green-facts : (x : Matrix) → let d = 224 * 10000 * kg x in (d % 2 ≡ 0) × (2 * (2048 * d + 2048 * d) < parts)
+green-facts Bt709 = (refl, lit< tt)
+green-facts Bt2020 = (refl, lit< tt)
 
 module _ (x : Matrix) (s : ℕ) (w : Words) (S : s ≤ 16) (n : NominalWords s w) where
   abbrev m : ℕ
@@ -65,23 +65,23 @@ module _ (x : Matrix) (s : ℕ) (w : Words) (S : s ≤ 16) (n : NominalWords s w
 
   -- R or B: Y' and one colour difference
   one : (v k : ℕ) → 16 * s ≤ v → v ≤ 240 * s → let a = 219 * 2 * (10000 - k) in let r = primary-rounds (w .y) v s k in
-      r .down ≤ r .up + 8192 → (z : ℤ) → z ≡ pos (2 ^ 48 * w .y) +ℤ signed s v *ℤ pos (inParts a (224 * 10000)) → counted z ≡ raised (rounded (primary (w .y) (signed s v) k))
+      r .down ≤ r .up + 16384 → (z : ℤ) → z ≡ pos (parts * w .y) +ℤ signed s v *ℤ pos (inParts a (224 * 10000)) → counted z ≡ raised (rounded (primary (w .y) (signed s v) k))
   one v k l h within z is =
       let d : ℕ = 2240000 in
       let a = 438 * (10000 - k) in
       let e = inParts a d in
-      let p = 2 ^ 48 * w .y in
+      let p = parts * w .y in
       let sum : z ≡ subℕ (p + v * e + 0 * 0) (m * e + 0 * 0) =
       is ∙ (λ i. pos-sub p i +ℤ signed-by s v e i) ∙ sub-add p 0 (v * e) (m * e) ∙ sub-eq (p + v * e) (0 + m * e) (p + v * e + 0 * 0) (m * e + 0 * 0) (omega arith) in
-      ap counted sum ∙ row-rounds d (lit< tt) (lit≤ tt) (w .y) v m a 0 0 0 (omega arith) (omega arith) (omega arith) (omega arith) _ _ _ (primary-rounds (w .y) v s k) (omega arith) (omega arith) within
+      ap counted sum ∙ counted-rounds d 2048 2048 (lit< tt) refl (lit< tt) (w .y) v m a 0 0 0 16384 (omega arith) (omega arith) (omega arith) (omega arith) _ _ _ (primary-rounds (w .y) v s k) (omega arith) (omega arith) within
 
   red : counted (dotted (row x 0) sample) ≡ raised (rounded (redOf x s w))
   unfolding decodingRows
   red =
       let c = signed s (w .cr) in
       let e = inParts (438 * (10000 - kr x)) 2240000 in
-      let p = 2 ^ 48 * w .y in
-      one (w .cr) (kr x) (n .cr-low) (n .cr-high) (rounds-within x s w S n .0 .1) (dotted (row x 0) sample)
+      let p = parts * w .y in
+      one (w .cr) (kr x) (n .cr-low) (n .cr-high) (omega (arith, rounds-within x s w S n .0)) (dotted (row x 0) sample)
       ((λ i. pos p +ℤ zero-*ℤ (signed s (w .cb)) i +ℤ *ℤ-comm (pos e) c i) ∙ ap (λ (z : ℤ). z +ℤ c *ℤ pos e) (+ℤ-idr (pos p)))
 
   blue : counted (dotted (row x 2) sample) ≡ raised (rounded (blueOf x s w))
@@ -89,8 +89,8 @@ module _ (x : Matrix) (s : ℕ) (w : Words) (S : s ≤ 16) (n : NominalWords s w
   blue =
       let c = signed s (w .cb) in
       let e = inParts (438 * (10000 - kb x)) 2240000 in
-      let p = 2 ^ 48 * w .y in
-      one (w .cb) (kb x) (n .cb-low) (n .cb-high) (rounds-within x s w S n .2 .1) (dotted (row x 2) sample)
+      let p = parts * w .y in
+      one (w .cb) (kb x) (n .cb-low) (n .cb-high) (omega (arith, rounds-within x s w S n .2)) (dotted (row x 2) sample)
       ((λ i. pos p +ℤ *ℤ-comm (pos e) c i +ℤ zero-*ℤ (signed s (w .cr)) i) ∙ +ℤ-idr (pos p +ℤ c *ℤ pos e))
 
   green : counted (dotted (row x 1) sample) ≡ raised (rounded (greenOf x s w))
@@ -99,7 +99,7 @@ module _ (x : Matrix) (s : ℕ) (w : Words) (S : s ≤ 16) (n : NominalWords s w
       let d = 2240000 * kg x in
       let b = 438 * kb x * (10000 - kb x) in
       let r = 438 * kr x * (10000 - kr x) in
-      let p = 2 ^ 48 * w .y in
+      let p = parts * w .y in
       let eb = inParts b d in
       let er = inParts r d in
       let vb = w .cb in
@@ -109,7 +109,7 @@ module _ (x : Matrix) (s : ℕ) (w : Words) (S : s ≤ 16) (n : NominalWords s w
       ∙ (λ i. ((λ j. pos-sub p j -ℤ signed-by s vb eb j) ∙ sub-minus p 0 (vb * eb) (m * eb)) i -ℤ signed-by s vr er i)
       ∙ sub-minus (p + m * eb) (0 + vb * eb) (vr * er) (m * er)
       ∙ sub-eq (p + m * eb + m * er) (0 + vb * eb + vr * er) (p + m * eb + m * er) (vb * eb + vr * er) (omega arith) in
-      ap counted sum ∙ row-rounds d (green-divisor x) (green-small x) (w .y) m vb b m vr r (omega (arith, n)) (omega (arith, n)) (omega (arith, n)) (omega (arith, n)) _ _ _ (green-rounds x s w (green-divisor x)) (omega arith) (omega arith) (rounds-within x s w S n .1 .1)
+      ap counted sum ∙ counted-rounds d 2048 2048 (green-divisor x) (green-facts x .0) (green-facts x .1) (w .y) m vb b m vr r 16384 (omega (arith, n)) (omega (arith, n)) (omega (arith, n)) (omega (arith, n)) _ _ _ (green-rounds x s w (green-divisor x)) (omega arith) (omega arith) (omega (arith, rounds-within x s w S n .1))
 
   pub rows-give-raised : record { r = counted (dotted (row x 0) sample); g = counted (dotted (row x 1) sample); b = counted (dotted (row x 2) sample) } ≡ raisedAt x s w
   unfolding raisedAt

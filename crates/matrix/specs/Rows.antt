@@ -56,17 +56,21 @@ colourDifference z own s = record { top = pos (128 * s * (219 * 2 * own)) -ℤ z
 unfoldable pub componentsAt : Matrix → ℕ → Codes → List ℕ
 componentsAt x s c = whole (rounded (luma x c)) ∷ whole (rounded (cbOf x s c)) ∷ whole (rounded (crOf x s c)) ∷ []
 
--- a fraction in parts, 2^48 to a code, rounded down
+-- the parts of a word or code in which it is counted
+abbrev pub parts : ℕ
+parts = 2 ^ 48
+
+-- a fraction in parts, rounded down
 abbrev pub inParts : ℕ → ℕ → ℕ
-inParts a d = a * 2 ^ 48 / d
+inParts a d = a * parts / d
 
 -- the way back: by (Y', cb, cr) they give R, G and B in parts, but for what the entries are rounded
 unfoldable pub decodingRows : Matrix → List (List ℤ)
 decodingRows x =
     let y = 224 * 10000 in
-    (pos (2 ^ 48) ∷ pos 0 ∷ pos (inParts (219 * 2 * (10000 - kr x)) y) ∷ [])
-    ∷ (pos (2 ^ 48) ∷ negℤ (pos (inParts (219 * 2 * kb x * (10000 - kb x)) (y * kg x))) ∷ negℤ (pos (inParts (219 * 2 * kr x * (10000 - kr x)) (y * kg x))) ∷ [])
-    ∷ (pos (2 ^ 48) ∷ pos (inParts (219 * 2 * (10000 - kb x)) y) ∷ pos 0 ∷ [])
+    (pos parts ∷ pos 0 ∷ pos (inParts (219 * 2 * (10000 - kr x)) y) ∷ [])
+    ∷ (pos parts ∷ negℤ (pos (inParts (219 * 2 * kb x * (10000 - kb x)) (y * kg x))) ∷ negℤ (pos (inParts (219 * 2 * kr x * (10000 - kr x)) (y * kg x))) ∷ [])
+    ∷ (pos parts ∷ pos (inParts (219 * 2 * (10000 - kb x)) y) ∷ pos 0 ∷ [])
     ∷ []
 
 -- a row and a triple whose product an i64 holds
@@ -88,13 +92,14 @@ lowered n = pos n -ℤ pos 16384
 unfoldable pub raisedAt : Matrix → ℕ → Words → Codes
 raisedAt x s w = record { r = raised (rounded (redOf x s w)); g = raised (rounded (greenOf x s w)); b = raised (rounded (blueOf x s w)) }
 
--- what is added to a component's parts: it is raised, a half goes up, and the rounded entries are off by up to 2^12 in all
+-- what is added to a component's parts before they are divided: it is raised by 16384, a half goes up, and two entries are off by up to
+-- 2^11 parts each
 abbrev pub lead : ℕ
-lead = 16384 * 2 ^ 48 + 2 ^ 47 + 2 ^ 12
+lead = 16384 * parts + parts / 2 + (2 ^ 11 + 2 ^ 11)
 
 -- a component of so many parts, raised and rounded
 abbrev pub counted : ℤ → ℕ
-counted z = whole (z +ℤ pos lead) / 2 ^ 48
+counted z = whole (z +ℤ pos lead) / parts
 
 -- a range to which raised components can be clipped
 pub record Clippable (n : Range) : Type 0 where

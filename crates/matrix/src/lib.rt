@@ -202,8 +202,8 @@ fn colour_difference(above: i64, own: i64, s: u16) -> u64
     ensures { λ r. ⌜ r ≡ whole (rounded (colourDifference above (natAbs own) s)) ⌝ }
 {
     let middle = (Range::MIDDLE * s) as i64;
-    let step = DIFFERENCE_STEPS * PARTS / (STEPS * 2 * own);
-    let parts = (2 * middle + 1) * (PARTS / 2) + COVER - above * step;
+    let step = in_parts(DIFFERENCE_STEPS, STEPS * 2 * own);
+    let parts = middle * PARTS + (PARTS / 2 + COVER) - above * step;
     parts as u64 / PARTS as u64
 }
 

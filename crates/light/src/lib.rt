@@ -38,7 +38,7 @@ pub fn code_of_light(system: u32, light: u16) -> LightCode
     ensures { λ r. ⌜ toldCode r ≡ codeOfLight system light ⌝ }
 {
     match System::from_number(system) {
-        Named::Known(y) => LightCode::Code(code_of(y, light)),
+        Named::Known(y) => LightCode::Code(code_of(y, light) as u16),
         Named::Unknown => LightCode::Refused(Refusal::System),
     }
 }
@@ -59,7 +59,7 @@ pub fn span_of_code(system: u32, code: u16) -> CodeSpan
     }
 }
 
-fn code_of(y: System, light: u16) -> u16
+fn code_of(y: System, light: u16) -> usize
     ensures { λ r. ⌜ r ≡ code y light ⌝ }
 {
     match y {

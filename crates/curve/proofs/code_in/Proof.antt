@@ -42,14 +42,13 @@ module _ (c : lts.Start (scale-reads.Asked, scale-reads.Learnt) reads.Pre reads.
   table-read : entry + 2 ≤ length (now (c .args .boundaries))
   table-read = in-table (c .args .y) (c .args .shift) (now (c .args .boundaries)) (now (c .args .index)) (c .pre) k light
 
-  entry-small : entry + 2 ≤ 3504
-  entry-small = omega (arith, table-read, c .pre .boundaries .size, scale-range (c .args .y))
-
-  sum : code (c .args .y) k ≡ 16 * scale (c .args .y) + entry + boolByte (leb (getD (now (c .args .boundaries)) entry 0) k) + boolByte (leb (getD (now (c .args .boundaries)) (entry + 1) 0) k)
-  sum = found (c .args .y) (c .args .shift) (now (c .args .boundaries)) (now (c .args .index)) (c .pre) k light
-
-  sum-small : code (c .args .y) k ≤ 3760
-  sum-small = omega (arith, code-high (c .args .y) k, scale-range (c .args .y))
+  -- the code by the two compares, and a bound of it, so of the entry and of each sum on the way
+  sum : (code (c .args .y) k ≡ 16 * scale (c .args .y) + entry + boolByte (leb (getD (now (c .args .boundaries)) entry 0) k) + boolByte (leb (getD (now (c .args .boundaries)) (entry + 1) 0) k))
+      × (code (c .args .y) k ≤ 3760)
+  sum = (
+    found (c .args .y) (c .args .shift) (now (c .args .boundaries)) (now (c .args .index)) (c .pre) k light,
+    omega (arith, code-high (c .args .y) k, scale-range (c .args .y)),
+  )
 
 cast-n : tie.Need-cast-n
 cast-n c = search needs
@@ -66,54 +65,50 @@ mul-n c = omega (arith, place-small (c .before .before))
 shared-slice-read-n : tie.Need-shared-slice-read-n
 shared-slice-read-n c = index-read (c .before .before .before)
 
-cast-i : tie.Need-cast-i
-cast-i c = omega (arith, entry-small (c .before .before .before))
-
-scale-requires : tie.Need-scale-requires
-scale-requires c κs = search needs
-
-module _ (c : lts.After-scale (scale-reads.Asked, scale-reads.Learnt) reads.Pre reads.Post) where
-  abbrev start : lts.Start (scale-reads.Asked, scale-reads.Learnt) reads.Pre reads.Post
-  start = c .before .before .before .before
-
-  small : c .scale .result ≤ 16
-  small = omega (arith, c .scale .ensures, scale-range (start .args .y))
+cast-n-3 : tie.Need-cast-n-3
+cast-n-3 c = omega (arith, sum (c .before .before .before))
 
 mul-result : tie.Need-mul-result
-mul-result c = omega (arith, small c)
-
-add-result : tie.Need-add-result
-add-result c = omega (arith, small c, entry-small (start c))
-
-mul-result-2 : tie.Need-mul-result-2
-mul-result-2 c = omega (arith, entry-small (start c))
+mul-result c = omega (arith, sum (c .before .before .before))
 
 shared-slice-read-result : tie.Need-shared-slice-read-result
-shared-slice-read-result c = omega (arith, table-read (start (c .before)))
+shared-slice-read-result c = omega (arith, table-read (c .before .before .before .before))
 
 cast-result : tie.Need-cast-result
 cast-result c = search needs
 
+add-result : tie.Need-add-result
+add-result c = omega (arith, sum (c .before .before .before .before))
+
 add-result-2 : tie.Need-add-result-2
-add-result-2 c = omega (arith, c .before .scale .ensures, sum (start (c .before)), sum-small (start (c .before)))
+add-result-2 c = omega (arith, sum (c .before .before .before .before))
 
-add-result-3 : tie.Need-add-result-3
-add-result-3 c = omega (arith, entry-small (start (c .before)))
-
-mul-result-3 : tie.Need-mul-result-3
-mul-result-3 c = omega (arith, entry-small (start (c .before)))
+mul-result-2 : tie.Need-mul-result-2
+mul-result-2 c = omega (arith, sum (c .before .before .before .before))
 
 shared-slice-read-result-2 : tie.Need-shared-slice-read-result-2
-shared-slice-read-result-2 c = omega (arith, table-read (start (c .before .before)))
+shared-slice-read-result-2 c = omega (arith, table-read (c .before .before .before .before .before))
 
 cast-result-2 : tie.Need-cast-result-2
 cast-result-2 c = search needs
 
+add-result-3 : tie.Need-add-result-3
+add-result-3 c = omega (arith, sum (c .before .before .before .before .before))
+
+scale-requires : tie.Need-scale-requires
+scale-requires c κs = search needs
+
+mul-result-3 : tie.Need-mul-result-3
+mul-result-3 c = omega (arith, sum (c .before .before .before .before .before .before))
+
+cast-result-3 : tie.Need-cast-result-3
+cast-result-3 c = search needs
+
 add-result-4 : tie.Need-add-result-4
-add-result-4 c = omega (arith, c .before .before .scale .ensures, sum (start (c .before .before)), sum-small (start (c .before .before)))
+add-result-4 c = omega (arith, sum (c .before .before .before .before .before .before))
 
 returns : tie.Need-returns
-returns c = omega (arith, c .before .before .scale .ensures, sum (start (c .before .before)))
+returns c = omega (arith, sum (c .before .before .before .before .before .before))
 
 pub code-in-spec : {M : Type 1} → statement M
 code-in-spec =
@@ -124,17 +119,18 @@ code-in-spec =
     cast-n-2
     mul-n
     shared-slice-read-n
-    cast-i
-    scale-requires
+    cast-n-3
     mul-result
-    add-result
-    mul-result-2
     shared-slice-read-result
     cast-result
+    add-result
     add-result-2
-    add-result-3
-    mul-result-3
+    mul-result-2
     shared-slice-read-result-2
     cast-result-2
+    add-result-3
+    scale-requires
+    mul-result-3
+    cast-result-3
     add-result-4
     returns)

@@ -18,9 +18,9 @@ use Rattle.row.specs.Row.{sampleCodes, sampleWords}
 use Rattle.row.specs.Stores.{put, headed, worded, stored}
 
 -- the codes of a sample's lights are nominal
-pub sample-nominal : (y : System) (lights : List ℕ) (i s : ℕ) (c : Codes) → s ≡ scale y → c ≡ sampleCodes y lights i
+pub sample-nominal : (y : System) (lights : List ℕ) (i : ℕ) {s : ℕ} {c : Codes} → s ≡ scale y → c ≡ sampleCodes y lights i
     → (0 < s) × (s ≤ 16) × NominalCodes s c
-sample-nominal y lights i s c same-scale same-codes =
+sample-nominal y lights i same-scale same-codes =
     rw (same-scale, same-codes) (
       scale-range y .0,
       scale-range y .1,
@@ -28,10 +28,10 @@ sample-nominal y lights i s c same-scale same-codes =
     )
 
 -- the words of a sample's codes by the system's matrix are the sample's
-pub sample-words : (y : System) (lights : List ℕ) (i s : ℕ) (c : Codes) (x : Matrix) (r : Words)
+pub sample-words : (y : System) (lights : List ℕ) (i : ℕ) {s : ℕ} {c : Codes} {x : Matrix} {r : Words}
     → matrix y ≡ x → s ≡ scale y → c ≡ sampleCodes y lights i → r ≡ wordsAt x s c → r ≡ sampleWords y lights i
 unfolding sampleWords
-sample-words y lights i s c x r same-matrix same-scale same-codes made = cc
+sample-words y lights i same-matrix same-scale same-codes made = cc
 
 -- the stores of a head, one after another
 pub head-put : (n row w : ℕ) (d d₁ d₂ d₃ d₄ d₅ : List ℕ)

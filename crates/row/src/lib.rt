@@ -3,7 +3,6 @@ use curve::code_in;
 use matrix::Words;
 use matrix::words_709;
 use matrix::words_2020;
-use systems::Codes;
 use systems::System;
 use thresholds::EightBits;
 use thresholds::TenBits;
@@ -15,6 +14,7 @@ ghost use lib.ListN.{length, drop, set};
 ghost use Rattle.systems.specs.declared.Matrix.the-variants.{Bt709, Bt2020};
 ghost use Rattle.systems.specs.Systems.{number, matrix, scale};
 ghost use Rattle.curve.specs.Boundaries.{Ready};
+ghost use Rattle.matrix.specs.Rows.{triple};
 ghost use Rattle.row.specs.Row.{sampleCodes, sampleWords, rowBlock};
 ghost use Rattle.row.specs.Stores.{RowFits, put, headed, worded, stored};
 
@@ -138,18 +138,14 @@ fn sample_codes<'a>(
     shift: u32,
     i: usize,
     lights: &[u16],
-) -> Codes
+) -> [usize; 3]
     requires { ⌜ Ready y shift (now boundaries) (now index) × (3 * i + 2 < length (now lights)) × (i < 65536) ⌝ }
-    ensures { λ r. ⌜ r ≡ sampleCodes y (now (lights .entry)) i ⌝ }
+    ensures { λ r. ⌜ triple r ≡ sampleCodes y (now (lights .entry)) i ⌝ }
 {
-    let r = lights[3 * i];
-    let g = lights[3 * i + 1];
-    let b = lights[3 * i + 2];
-    Codes {
-        r: code_in(y, boundaries, index, shift, r),
-        g: code_in(y, boundaries, index, shift, g),
-        b: code_in(y, boundaries, index, shift, b),
-    }
+    let r = code_in(y, boundaries, index, shift, lights[3 * i]);
+    let g = code_in(y, boundaries, index, shift, lights[3 * i + 1]);
+    let b = code_in(y, boundaries, index, shift, lights[3 * i + 2]);
+    [r, g, b]
 }
 
 // The system, the row number and the three counts.

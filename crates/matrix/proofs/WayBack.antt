@@ -1,23 +1,21 @@
 -- The rows of the way back, by (Y', cb, cr), are document 01's fractions; and an i64 holds what they come to.
 -- Assumes nothing.
-use mathlib.Core.Path.{_≡_, refl, sym, ap, _∙_}
+use mathlib.Core.Path.{_≡_, refl, ap, _∙_}
 use mathlib.Core.List.{List, [], _∷_}
 use Prim.Native.Nat.{ℕ, _+_, _*_, _-_, _%_, _^_, _≤_, _<_}
-use native.Mathlib.Nat.{mul-le-mul-left}
 use native.Mathlib.Omega.{arith}
 use lib.Dec.{lit≤, lit<}
-use lib.IntN.{ℤ, pos, negℤ, natAbs, subℕ, _+ℤ_, _-ℤ_, _*ℤ_, zero-*ℤ, +ℤ-idr, +ℤ-assoc, +ℤ-comm, *ℤ-comm}
+use lib.IntN.{ℤ, pos, natAbs, subℕ, _+ℤ_, _-ℤ_, _*ℤ_, zero-*ℤ, +ℤ-idr, *ℤ-comm}
 use lib.ListN.{getD}
-use lib.Signed.{_<ℤ_}
 use Rattle.exact.proofs.Machine.{natAbs-add, natAbs-mul-le}
 use Rattle.exact.proofs.Difference.{pos-less, pos-sub, sub-add, sub-minus, sub-eq, negated, sub-size}
 use Rattle.systems.specs.declared.Matrix.{Matrix}
 use Rattle.systems.specs.declared.Matrix.the-variants.{Bt709, Bt2020}
 use Rattle.systems.specs.Systems.{kr, kg, kb}
-use Rattle.exact.specs.Signed.{Ratio, rounded}
+use Rattle.exact.specs.Signed.{rounded}
 use Rattle.matrix.specs.declared.Words.{Words}
 use Rattle.matrix.specs.Triples.{primary, signed, redOf, greenOf, blueOf}
-use Rattle.matrix.specs.Rows.{NominalWords, Small, dotted, parts, inParts, decodingRows, raised, raisedAt, counted}
+use Rattle.matrix.specs.Rows.{NominalWords, Small, dotted, parts, inParts, reach, decodingRows, raised, raisedAt, counted}
 use Rattle.matrix.proofs.Fractions.{signed-by, primary-rounds, green-rounds}
 use Rattle.matrix.proofs.Raised.{green-divisor, rounds-within}
 use Rattle.matrix.proofs.Counted.{counted-rounds}
@@ -34,7 +32,7 @@ abbrev pub Ready : List ℤ → List ℤ → Type 0
 Ready r t = Small r t × (natAbs (dotted r t) ≤ 8192 * parts)
 
 module _ (y : ℕ) (cb cr : ℤ) (Y : y ≤ 3760) (B : natAbs cb ≤ 1792) (R : natAbs cr ≤ 1792) where
-  row-ready : (b r : ℤ) → natAbs b ≤ 2 ^ 49 → natAbs r ≤ 2 ^ 49 → (natAbs b + natAbs r) * 1792 ≤ 4432 * parts → Ready (pos (parts) ∷ b ∷ r ∷ []) (triple y cb cr)
+  row-ready : (b r : ℤ) → natAbs b ≤ 2 ^ 49 → natAbs r ≤ 2 ^ 49 → (natAbs b + natAbs r) * 1792 ≤ 4432 * parts → Ready (pos parts ∷ b ∷ r ∷ []) (triple y cb cr)
   row-ready b r b' r' h =
       let p = parts in
       let bb : natAbs (b *ℤ cb) ≤ natAbs b * 1792 = natAbs-mul-le b cb (natAbs b) 1792 (omega arith) B in
@@ -52,7 +50,7 @@ pub difference-small : (s w : ℕ) → s ≤ 16 → 16 * s ≤ w → w ≤ 240 *
 difference-small s w S l h = rw (pos-less w (128 * s)) (sub-size w (128 * s) 1792 (omega arith) (omega arith))
 
 -- ---- value
-green-facts : (x : Matrix) → let d = 224 * 10000 * kg x in (d % 2 ≡ 0) × (2 * (2048 * d + 2048 * d) < parts)
+green-facts : (x : Matrix) → let d = 224 * 10000 * kg x in (d % 2 ≡ 0) × (2 * (reach * d + reach * d) < parts)
 green-facts Bt709 = (refl, lit< tt)
 green-facts Bt2020 = (refl, lit< tt)
 
@@ -73,7 +71,7 @@ module _ (x : Matrix) (s : ℕ) (w : Words) (S : s ≤ 16) (n : NominalWords s w
       let p = parts * w .y in
       let sum : z ≡ subℕ (p + v * e + 0 * 0) (m * e + 0 * 0) =
       is ∙ (λ i. pos-sub p i +ℤ signed-by s v e i) ∙ sub-add p 0 (v * e) (m * e) ∙ sub-eq (p + v * e) (0 + m * e) (p + v * e + 0 * 0) (m * e + 0 * 0) (omega arith) in
-      ap counted sum ∙ counted-rounds d 2048 2048 (lit< tt) refl (lit< tt) (w .y) v m a 0 0 0 16384 (omega arith) (omega arith) (omega arith) (omega arith) _ _ _ (primary-rounds (w .y) v s k) (omega arith) (omega arith) within
+      ap counted sum ∙ counted-rounds d reach reach (lit< tt) refl (lit< tt) (w .y) v m a 0 0 0 16384 (omega arith) (omega arith) (omega arith) (omega arith) _ _ _ (primary-rounds (w .y) v s k) (omega arith) (omega arith) within
 
   red : counted (dotted (row x 0) sample) ≡ raised (rounded (redOf x s w))
   unfolding decodingRows
@@ -109,7 +107,7 @@ module _ (x : Matrix) (s : ℕ) (w : Words) (S : s ≤ 16) (n : NominalWords s w
       ∙ (λ i. ((λ j. pos-sub p j -ℤ signed-by s vb eb j) ∙ sub-minus p 0 (vb * eb) (m * eb)) i -ℤ signed-by s vr er i)
       ∙ sub-minus (p + m * eb) (0 + vb * eb) (vr * er) (m * er)
       ∙ sub-eq (p + m * eb + m * er) (0 + vb * eb + vr * er) (p + m * eb + m * er) (vb * eb + vr * er) (omega arith) in
-      ap counted sum ∙ counted-rounds d 2048 2048 (green-divisor x) (green-facts x .0) (green-facts x .1) (w .y) m vb b m vr r 16384 (omega (arith, n)) (omega (arith, n)) (omega (arith, n)) (omega (arith, n)) _ _ _ (green-rounds x s w (green-divisor x)) (omega arith) (omega arith) (omega (arith, rounds-within x s w S n .1))
+      ap counted sum ∙ counted-rounds d reach reach (green-divisor x) (green-facts x .0) (green-facts x .1) (w .y) m vb b m vr r 16384 (omega (arith, n)) (omega (arith, n)) (omega (arith, n)) (omega (arith, n)) _ _ _ (green-rounds x s w (green-divisor x)) (omega arith) (omega arith) (omega (arith, rounds-within x s w S n .1))
 
   pub rows-give-raised : record { r = counted (dotted (row x 0) sample); g = counted (dotted (row x 1) sample); b = counted (dotted (row x 2) sample) } ≡ raisedAt x s w
   unfolding raisedAt

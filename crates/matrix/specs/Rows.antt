@@ -92,10 +92,14 @@ lowered n = pos n -ℤ pos 16384
 unfoldable pub raisedAt : Matrix → ℕ → Words → Codes
 raisedAt x s w = record { r = raised (rounded (redOf x s w)); g = raised (rounded (greenOf x s w)); b = raised (rounded (blueOf x s w)) }
 
--- what is added to a component's parts before they are divided: it is raised by 16384, a half goes up, and two entries are off by up to
--- 2^11 parts each
+-- no cb or cr is further from 0
+abbrev pub reach : ℕ
+reach = 2 ^ 11
+
+-- what is added to a component's parts before they are divided: it is raised by 16384, a half goes up, and the entries of cb and cr are
+-- off by less than one part each
 abbrev pub lead : ℕ
-lead = 16384 * parts + parts / 2 + (2 ^ 11 + 2 ^ 11)
+lead = 16384 * parts + parts / 2 + (reach + reach)
 
 -- a component of so many parts, raised and rounded
 abbrev pub counted : ℤ → ℕ

@@ -13,7 +13,7 @@ ghost use lib.Signed.{_<ℤ_};
 ghost use Rattle.exact.specs.Signed.{rounded};
 ghost use Rattle.systems.specs.declared.Matrix.the-variants.{Bt709, Bt2020};
 ghost use Rattle.matrix.specs.Triples.{wordsAt, codesAt, wordsOfCodes, codesOfWords, toldWords, toldCodes, wordsWithin, whole, signed, clipped, beyond};
-ghost use Rattle.matrix.specs.Rows.{triple, NominalCodes, NominalWords, Small, dotted, encodingRows, colourDifference, componentsAt, decodingRows, lowered, raisedAt, inParts, counted, Clippable, atLeast, atMost};
+ghost use Rattle.matrix.specs.Rows.{triple, NominalCodes, NominalWords, Small, dotted, encodingRows, colourDifference, componentsAt, decodingRows, lowered, raisedAt, parts, inParts, counted, Clippable, atLeast, atMost};
 
 // Y', Cb and Cr words of a sample.
 #[repr(C)]
@@ -48,17 +48,17 @@ const STEPS: i64 = (Range::WHITE - Range::BLACK) as i64;
 // Words from one end of a colour difference to the other at 8 bits.
 const DIFFERENCE_STEPS: i64 = (Range::DIFFERENCE_PEAK - Range::BLACK) as i64;
 
-// Parts of a word or code in which it is counted: a power of 2, by which a division is a shift.
+// A word or code is counted in these parts before it is rounded: a power of 2, by which a division is a shift.
 const PARTS: i64 = 1 << 48;
 
-// By itself it makes PARTS.
+// PARTS is its square.
 const PARTS_ROOT: u64 = 1 << 24;
 
-// The most steps that a colour difference has. Each is off by less than one part, so these parts cover what all are off.
-const COVER: i64 = 1 << 25;
+// A step or an entry is off by less than one part. These cover what a colour difference's steps are off in all, at most 2^25 of
+// them, and what the entries by which cb and cr are multiplied are, at most 2^11 times each.
+const DIFFERENCE_COVER: i64 = 1 << 25;
 
-// The most that cb and cr have together, at least. Their entries are off by less than one part, so these parts cover what both are off.
-const ENTRIES_COVER: i64 = 1 << 12;
+const PRIMARY_COVER: i64 = 1 << 12;
 
 // Added to R, G and B until they are clipped, so that a u16 holds them: none that nominal words give is below -RAISE.
 const RAISE: u16 = 16384;
@@ -203,7 +203,7 @@ fn colour_difference(above: i64, own: i64, s: u16) -> u64
 {
     let middle = (Range::MIDDLE * s) as i64;
     let step = in_parts(DIFFERENCE_STEPS, STEPS * 2 * own);
-    let parts = middle * PARTS + (PARTS / 2 + COVER) - above * step;
+    let parts = middle * PARTS + (PARTS / 2 + DIFFERENCE_COVER) - above * step;
     parts as u64 / PARTS as u64
 }
 
@@ -250,12 +250,12 @@ fn raised_in(x: Matrix, s: u16, w: Words) -> Codes
     }
 }
 
-// R, G or B by its row, raised and rounded.
+// R, G or B by its row, raised and rounded. The entries are rounded down, and what that makes in all never reaches the next code.
 fn primary(row: [i64; 3], triple: [i64; 3]) -> u16
-    requires { ⌜ Small row triple × (natAbs (dotted row triple) ≤ 8192 * 2 ^ 48) ⌝ }
+    requires { ⌜ Small row triple × (natAbs (dotted row triple) ≤ 8192 * parts) ⌝ }
     ensures { λ r. ⌜ r ≡ counted (dotted row triple) ⌝ }
 {
-    let parts = dot(row, triple) + (RAISE as i64 * PARTS + PARTS / 2 + ENTRIES_COVER);
+    let parts = dot(row, triple) + (RAISE as i64 * PARTS + PARTS / 2 + PRIMARY_COVER);
     (parts as u64 / PARTS as u64) as u16
 }
 
@@ -275,7 +275,7 @@ fn signed(s: u16, word: u16) -> i64
     word as i64 - (Range::MIDDLE * s) as i64
 }
 
-// R, G and B of (Y', cb, cr), in parts.
+// The parts of R, G and B of (Y', cb, cr).
 fn decoding(x: Matrix) -> [[i64; 3]; 3]
     ensures { λ r. ⌜ r ≡ decodingRows x ⌝ }
 {
@@ -292,7 +292,7 @@ fn decoding(x: Matrix) -> [[i64; 3]; 3]
     ]
 }
 
-// A fraction in parts, rounded down: divided twice by half of the places, since no i64 holds top by all parts.
+// A fraction in parts, rounded down. Divided twice, each time with half of the places, since no u64 holds top by PARTS.
 fn in_parts(top: i64, bottom: i64) -> i64
     requires { ⌜ (pos 0 <ℤ top) × (pos 0 <ℤ bottom) × (natAbs bottom ≤ 2 ^ 34) × (natAbs top ≤ 2 * natAbs bottom) ⌝ }
     ensures { λ r. ⌜ r ≡ pos (inParts (natAbs top) (natAbs bottom)) ⌝ }

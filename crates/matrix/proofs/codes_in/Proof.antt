@@ -1,5 +1,3 @@
-use mathlib.Core.Path.{_≡_}
-use native.Mathlib.Omega.{arith}
 use borrow.Author.Needs.{needs}
 use Rattle.matrix.proofs.Raised.{codes-from-raised}
 use Rattle.matrix.proofs.codes_in.Statement.{statement}

@@ -6,9 +6,7 @@ use lib.IntN.{pos, natAbs}
 use mir.Syntax.{w64}
 use mir.Val.{toZ, ofZ}
 use mir.ValLaws.{toZ-pos}
-use borrow.Author.Needs.{needs}
 use Rattle.exact.proofs.Machine.{fits-i64, reads-back, positive}
-use Rattle.matrix.specs.Rows.{inParts}
 use Rattle.matrix.proofs.Counted.{in-two-steps}
 use Rattle.matrix.proofs.in_parts.Statement.{statement}
 use Rattle.matrix.proofs.in_parts.Tie as tie

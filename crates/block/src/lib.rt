@@ -2,8 +2,7 @@
 use matrix::Words;
 use matrix::beyond;
 use matrix::clip;
-use matrix::raised_709;
-use matrix::raised_2020;
+use matrix::raised_in;
 use systems::Codes;
 use systems::Matrix;
 use systems::Named;
@@ -17,7 +16,6 @@ ghost use lib.Dec.{eqb};
 ghost use lib.ListN.{length, take, drop};
 ghost use lib.Seq.{sets};
 ghost use Rattle.systems.specs.Systems.{scale, within};
-ghost use Rattle.systems.specs.declared.Matrix.the-variants.{Bt709, Bt2020};
 ghost use Rattle.matrix.specs.Rows.{Clippable};
 ghost use Rattle.block.specs.Read.{fieldAt, sectionAt, sections, walk, sampleAt, nominalTo, listed, codesTo, clippedTo, rowOf, headerOf, sliceAfter, toldHeader};
 ghost use Rattle.block.specs.Steps.{toldCount, toldWalk, inRange, Decodable, raisedRow, listedTo, clippedAll, beyondAll};
@@ -197,36 +195,19 @@ fn decode(system: System, bytes: &[u8], codes: &mut [u16], samples: usize) -> u3
     ensures { λ r. ⌜ r ≡ clippedTo (rowOf system (now (bytes .entry)) samples) samples ⌝ }
     ensures { λ r. ⌜ now (codes .exit) ≡ codesTo (rowOf system (now (bytes .entry)) samples) samples ++ drop (3 * samples) (now (codes .entry)) ⌝ }
 {
-    let s = system.scale();
-    match system.matrix() {
-        Matrix::Bt709 => raise_709(s, bytes, codes, samples),
-        Matrix::Bt2020 => raise_2020(s, bytes, codes, samples),
-    }
+    raise_all(system.matrix(), system.scale(), bytes, codes, samples);
     clip_all(system.nominal(), codes, 3 * samples) as u32
 }
 
-// The samples' R, G and B before they are clipped. A loop for each matrix, so that its divisors are known where the loop is
-// compiled.
-fn raise_709(s: u16, bytes: &[u8], codes: &mut [u16], samples: usize)
+// The samples' R, G and B before they are clipped.
+fn raise_all(x: Matrix, s: u16, bytes: &[u8], codes: &mut [u16], samples: usize)
     requires { ⌜ Decodable s (now bytes) samples (length (now codes)) ⌝ }
-    ensures { λ r. ⌜ now (codes .exit) ≡ listedTo (raisedRow Bt709 s (sampleAt (now (bytes .entry)) samples)) samples ++ drop (3 * samples) (now (codes .entry)) ⌝ }
+    ensures { λ r. ⌜ now (codes .exit) ≡ listedTo (raisedRow x s (sampleAt (now (bytes .entry)) samples)) samples ++ drop (3 * samples) (now (codes .entry)) ⌝ }
 {
     let mut i: usize = 0;
     while i < samples {
         let words = words_at(bytes, samples, i);
-        store(codes, i, raised_709(s, words));
-        i += 1;
-    }
-}
-
-fn raise_2020(s: u16, bytes: &[u8], codes: &mut [u16], samples: usize)
-    requires { ⌜ Decodable s (now bytes) samples (length (now codes)) ⌝ }
-    ensures { λ r. ⌜ now (codes .exit) ≡ listedTo (raisedRow Bt2020 s (sampleAt (now (bytes .entry)) samples)) samples ++ drop (3 * samples) (now (codes .entry)) ⌝ }
-{
-    let mut i: usize = 0;
-    while i < samples {
-        let words = words_at(bytes, samples, i);
-        store(codes, i, raised_2020(s, words));
+        store(codes, i, raised_in(x, s, words));
         i += 1;
     }
 }

@@ -113,22 +113,6 @@ pub fn words_2020(s: u16, c: [usize; 3]) -> Words
     words_in(Matrix::Bt2020, s, c)
 }
 
-// The words' R, G and B by BT.709's matrix, raised and not clipped yet.
-pub fn raised_709(s: u16, w: Words) -> Codes
-    requires { ⌜ (s ≤ 16) × NominalWords s w ⌝ }
-    ensures { λ r. ⌜ r ≡ raisedAt Bt709 s w ⌝ }
-{
-    raised_in(Matrix::Bt709, s, w)
-}
-
-// The words' R, G and B by BT.2020's matrix.
-pub fn raised_2020(s: u16, w: Words) -> Codes
-    requires { ⌜ (s ≤ 16) × NominalWords s w ⌝ }
-    ensures { λ r. ⌜ r ≡ raisedAt Bt2020 s w ⌝ }
-{
-    raised_in(Matrix::Bt2020, s, w)
-}
-
 // The nearer end of the range where a raised component is beyond it.
 pub fn clip(n: Range, v: u16) -> u16
     requires { ⌜ Clippable n ⌝ }
@@ -236,8 +220,8 @@ fn codes_in(x: Matrix, s: u16, w: Words) -> Clipped
     }
 }
 
-// R, G and B, raised and not clipped yet.
-fn raised_in(x: Matrix, s: u16, w: Words) -> Codes
+// The words' R, G and B, raised and not clipped yet.
+pub fn raised_in(x: Matrix, s: u16, w: Words) -> Codes
     requires { ⌜ (s ≤ 16) × NominalWords s w ⌝ }
     ensures { λ r. ⌜ r ≡ raisedAt x s w ⌝ }
 {

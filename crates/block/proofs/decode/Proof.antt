@@ -1,13 +1,10 @@
-use mathlib.Core.Path.{_≡_, sym, ap, _∙_}
-use mathlib.Core.Logic.{⊎-elim}
+use mathlib.Core.Path.{_≡_, ap, _∙_}
 use mathlib.Core.List.{List, _++_}
 use Prim.Native.Nat.{ℕ, _*_}
 use native.Mathlib.Omega.{arith}
 use lib.ListN.{length, take, drop}
 use denote.Ref.{now}
-use Rattle.systems.specs.declared.Codes.{Codes}
 use Rattle.systems.specs.declared.Matrix.{Matrix}
-use Rattle.systems.specs.declared.Matrix.the-variants.{Bt709, Bt2020}
 use Rattle.systems.specs.declared.Range.{Range}
 use Rattle.systems.specs.Systems.{matrix, scale}
 use Rattle.block.specs.Read.{sampleAt}
@@ -18,49 +15,31 @@ use borrow.Author.Needs.{needs}
 use Rattle.block.proofs.decode.Statement.{statement}
 use Rattle.block.proofs.decode.Tie as tie
 
--- the slice where the two matrices meet
-module _ (c : tie.At-match-came) where
+-- the slice before it is clipped
+module _ (c : tie.After-raise-all) where
   abbrev start : tie.Start
-  start = c .before .before .before .before .before
+  start = c .before .before .before .before .before .before
 
-  abbrev slice : List ℕ
-  slice = now (start .args .codes)
-
-  abbrev row : Matrix → ℕ → ℕ → Codes
-  row x s = raisedRow x s (sampleAt (now (start .args .bytes)) (start .args .samples))
+  abbrev raised : List ℕ
+  raised = c .raise-all .last .1 .1 .1 .0
 
   abbrev listed : Matrix → ℕ → List ℕ
-  listed x s = listedTo (row x s) (start .args .samples) ++ drop (3 * start .args .samples) slice
+  listed x s = listedTo (raisedRow x s (sampleAt (now (start .args .bytes)) (start .args .samples))) (start .args .samples) ++ drop (3 * start .args .samples) (now (start .args .codes))
 
-  raised : c .match .codes ≡ listed (matrix (start .args .system)) (scale (start .args .system))
-  raised =
-      let x = c .before .matrix .ensures in
-      let s = c .before .before .scale .ensures in
-      ⊎-elim
-      (λ w. w .6 ∙ w .3 .ensures ∙ (λ j. listed ((sym (w .1 .given .1) ∙ x) j) (s j)))
-      (λ w. w .6 ∙ w .3 .ensures ∙ (λ j. listed ((sym (w .1 .given .1) ∙ x) j) (s j)))
-      (c .match .came)
+  raised-is : raised ≡ listed (matrix (start .args .system)) (scale (start .args .system))
+  raised-is = c .raise-all .ensures ∙ (λ j. listed (c .before .before .before .matrix .ensures j) (c .before .before .scale .ensures j))
 
-  raised-long : length (c .match .codes) ≡ length slice
-  raised-long = ap length raised ∙ listed-kept (row (matrix (start .args .system)) (scale (start .args .system))) (start .args .samples) slice (start .pre .fits)
-
-scale-requires : tie.Need-scale-requires
-scale-requires c κs = search needs
+  raised-long : length raised ≡ length (now (start .args .codes))
+  raised-long = ap length raised-is ∙ listed-kept _ (start .args .samples) (now (start .args .codes)) (start .pre .fits)
 
 matrix-requires : tie.Need-matrix-requires
 matrix-requires c κs = search needs
 
-enum-told : tie.Need-enum-told
-enum-told c = search needs
+scale-requires : tie.Need-scale-requires
+scale-requires c κs = search needs
 
-raise-709-requires : tie.Need-raise-709-requires
-raise-709-requires c κs = rw (c .before .before .before .before .scale .ensures) (c .before .before .before .before .before .before .before .pre)
-
-enum-told-2 : tie.Need-enum-told-2
-enum-told-2 c = search needs
-
-raise-2020-requires : tie.Need-raise-2020-requires
-raise-2020-requires c κs = rw (c .before .before .before .before .scale .ensures) (c .before .before .before .before .before .before .before .pre)
+raise-all-requires : tie.Need-raise-all-requires
+raise-all-requires c κs = rw (c .before .scale .ensures) (c .before .before .before .before .before .pre)
 
 nominal-requires : tie.Need-nominal-requires
 nominal-requires c κs = search needs
@@ -70,39 +49,36 @@ mul-clip-all c = search needs
 
 clip-all-requires : tie.Need-clip-all-requires
 clip-all-requires c κs =
-    let p = c .before .before .before .before .before .before .before .pre in
-    let l = raised-long (c .before .before) in
-    (rw (c .before .nominal .ensures) record { in-order = omega arith; small = omega (arith, p .scale-high) }, omega (arith, p .fits), omega (arith, p .narrow))
+    let r = c .before .before .before .before in
+    let p = start r .pre in
+    (rw (c .before .nominal .ensures) record { in-order = omega arith; small = omega (arith, p .scale-high) }, omega (arith, p .fits, raised-long r), omega (arith, p .narrow))
 
 cast-result : tie.Need-cast-result
 cast-result c = search needs
 
 same-length : tie.Need-same-length
-same-length c = c .before .before .clip-all .kept .1 .0 ∙ raised-long (c .before .before .before .before .before)
+same-length c = search needs
 
 returns : tie.Need-returns
 returns c =
-    let m = c .before .before .before .before .before in
-    let s = start m in
+    let r = c .before .before .before .before .before .before .before in
+    let s = start r in
     let n = s .args .samples in
     let y = s .args .system in
-    let done = clipped-row (matrix y) (scale y) (sampleAt (now (s .args .bytes)) n) (s .pre .scale-high) n (slice m) (m .match .codes) (s .pre .nominal) (raised m) in
+    let done = clipped-row (matrix y) (scale y) (sampleAt (now (s .args .bytes)) n) (s .pre .scale-high) n (now (s .args .codes)) (raised r) (s .pre .nominal) (raised-is r) in
     let range = c .before .before .before .before .nominal .ensures in
     let told = c .before .before .clip-all .ensures in (
-      told .0 ∙ ap (λ (r : Range). beyondAll r (take (3 * n) (m .match .codes))) range ∙ done .0,
-      told .1 ∙ ap (λ (r : Range). clippedAll r (take (3 * n) (m .match .codes)) ++ drop (3 * n) (m .match .codes)) range ∙ done .1,
+      told .0 ∙ ap (λ (t : Range). beyondAll t (take (3 * n) (raised r))) range ∙ done .0,
+      told .1 ∙ ap (λ (t : Range). clippedAll t (take (3 * n) (raised r)) ++ drop (3 * n) (raised r)) range ∙ done .1,
     )
 
 pub decode-spec : {M : Type 1} → statement M
 decode-spec =
     tie.close
     (tie.spec
-    scale-requires
     matrix-requires
-    enum-told
-    raise-709-requires
-    enum-told-2
-    raise-2020-requires
+    scale-requires
+    raise-all-requires
     nominal-requires
     mul-clip-all
     clip-all-requires

@@ -10,15 +10,19 @@ use Rattle.exact.proofs.Nearest.{Rounds}
 use Rattle.matrix.specs.Triples.{whole}
 use Rattle.matrix.specs.Rows.{parts, inParts}
 
--- divided twice by half of the places
-pub in-two-steps : (t b : ℕ) → 0 < b → t * 2 ^ 24 / b * 2 ^ 24 + t * 2 ^ 24 % b * 2 ^ 24 / b ≡ inParts t b
+-- its square is the parts
+abbrev pub root : ℕ
+root = 2 ^ 24
+
+-- divided twice, each time with half of the places
+pub in-two-steps : (t b : ℕ) → 0 < b → t * root / b * root + t * root % b * root / b ≡ inParts t b
 in-two-steps t b B =
-    let a = t * 2 ^ 24 in
+    let a = t * root in
     let q = a / b in
     let r = a % b in
-    let e : (r + q * b) * 2 ^ 24 ≡ a * 2 ^ 24 = ap (λ (x : ℕ). x * 2 ^ 24) (mod-add-div' a b) in
-    let f : r * 2 ^ 24 + q * 2 ^ 24 * b ≡ t * 2 ^ 48 = omega (arith, add-mul r (q * b) (2 ^ 24), mul-right-comm q (2 ^ 24) b) in
-    add-comm (q * 2 ^ 24) (r * 2 ^ 24 / b) ∙ sym (add-mul-div-right (r * 2 ^ 24) (q * 2 ^ 24) B) ∙ ap (λ (x : ℕ). x / b) f
+    let e : (r + q * b) * root ≡ a * root = ap (λ (x : ℕ). x * root) (mod-add-div' a b) in
+    let f : r * root + q * root * b ≡ t * parts = omega (arith, add-mul r (q * b) root, mul-right-comm q root b) in
+    add-comm (q * root) (r * root / b) ∙ sym (add-mul-div-right (r * root) (q * root) B) ∙ ap (λ (x : ℕ). x / b) f
 
 lifted : (a b k : ℕ) → b ≤ a + k → whole (subℕ a b +ℤ pos k) ≡ a + k - b
 lifted a b k h =

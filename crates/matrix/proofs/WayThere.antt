@@ -18,8 +18,9 @@ use Rattle.systems.specs.declared.Codes.{Codes}
 use Rattle.systems.specs.declared.Matrix.{Matrix}
 use Rattle.systems.specs.declared.Matrix.the-variants.{Bt709, Bt2020}
 use Rattle.systems.specs.Systems.{kr, kb}
-use Rattle.matrix.specs.Triples.{weighted, whole}
-use Rattle.matrix.specs.Rows.{NominalCodes, Small, dotted, encodingRows, colourDifference, componentsAt}
+use Rattle.matrix.specs.declared.Words.{Words}
+use Rattle.matrix.specs.Triples.{weighted, whole, wordsAt}
+use Rattle.matrix.specs.Rows.{NominalCodes, Small, dotted, encodingRows, colourDifference}
 
 -- what the rows multiply
 abbrev pub column : Codes → List ℤ
@@ -48,20 +49,25 @@ top-is w d m =
     (λ i. pos-sub m i -ℤ (ap (λ (z : ℤ). z *ℤ pos 224) (pos-less w d) ∙ sub-mul w d 224) i) ∙ sub-minus m 0 (w * 224) (d * 224) ∙ sub-eq (m + d * 224) (0 + w * 224) (d * 224 + m) (w * 224 + 0) e
     ∙ sym ((λ i. (ap (λ (z : ℤ). z *ℤ pos 224) (pos-less d w) ∙ sub-mul d w 224) i +ℤ pos-sub m i) ∙ sub-add (d * 224) (w * 224) m 0)
 
-pub gives-components : (x : Matrix) (s : ℕ) (c : Codes) →
-    (INT (weighted x c) 10000
-    ∷ whole (rounded (colourDifference (above x c (c .b)) (10000 - kb x) s))
-    ∷ whole (rounded (colourDifference (above x c (c .r)) (10000 - kr x) s))
-    ∷ []) ≡ componentsAt x s c
-unfolding componentsAt
-gives-components x s c =
+-- what the functions make of them are the words
+abbrev made : Matrix → ℕ → Codes → Words
+made x s c = record {
+  y = INT (weighted x c) 10000;
+  cb = whole (rounded (colourDifference (above x c (c .b)) (10000 - kb x) s));
+  cr = whole (rounded (colourDifference (above x c (c .r)) (10000 - kr x) s));
+}
+
+pub gives-words : (x : Matrix) (s : ℕ) (c : Codes) → made x s c ≡ wordsAt x s c
+unfolding wordsAt
+gives-words x s c =
     let w = weighted x c in
     let b = 438 * (10000 - kb x) in
     let r = 438 * (10000 - kr x) in
-    λ i. ap whole (sym (rounded-whole w 10000)) i
-    ∷ whole (rounded record { top = top-is w (10000 * c .b) (128 * s * b) i; bottom = b })
-    ∷ whole (rounded record { top = top-is w (10000 * c .r) (128 * s * r) i; bottom = r })
-    ∷ []
+    λ i. record {
+      y = whole (sym (rounded-whole w 10000) i);
+      cb = whole (rounded record { top = top-is w (10000 * c .b) (128 * s * b) i; bottom = b });
+      cr = whole (rounded record { top = top-is w (10000 * c .r) (128 * s * r) i; bottom = r });
+    }
 
 -- ---- size
 -- what `colour_difference` asks

@@ -52,10 +52,6 @@ encodingRows x =
 abbrev pub colourDifference : ℤ → ℕ → ℕ → Ratio
 colourDifference z own s = record { top = pos (128 * s * (219 * 2 * own)) -ℤ z *ℤ pos 224; bottom = 219 * 2 * own }
 
--- Y', Cb and Cr, none of them below 0
-unfoldable pub componentsAt : Matrix → ℕ → Codes → List ℕ
-componentsAt x s c = whole (rounded (luma x c)) ∷ whole (rounded (cbOf x s c)) ∷ whole (rounded (crOf x s c)) ∷ []
-
 -- the parts of a word or code in which it is counted
 abbrev pub parts : ℕ
 parts = 2 ^ 48

@@ -13,7 +13,7 @@ ghost use lib.Signed.{_<ℤ_};
 ghost use Rattle.exact.specs.Signed.{rounded};
 ghost use Rattle.systems.specs.declared.Matrix.the-variants.{Bt709, Bt2020};
 ghost use Rattle.matrix.specs.Triples.{wordsAt, codesAt, wordsOfCodes, codesOfWords, toldWords, toldCodes, wordsWithin, whole, signed, clipped, beyond};
-ghost use Rattle.matrix.specs.Rows.{triple, NominalCodes, NominalWords, Small, dotted, encodingRows, colourDifference, componentsAt, decodingRows, lowered, raisedAt, parts, inParts, counted, Clippable, atLeast, atMost};
+ghost use Rattle.matrix.specs.Rows.{triple, NominalCodes, NominalWords, Small, dotted, encodingRows, colourDifference, decodingRows, lowered, raisedAt, parts, inParts, counted, Clippable, atLeast, atMost};
 
 // Y', Cb and Cr words of a sample.
 #[repr(C)]
@@ -155,40 +155,27 @@ fn words_in(x: Matrix, s: u16, c: [usize; 3]) -> Words
     requires { ⌜ (s ≤ 16) × NominalCodes s (triple c) ⌝ }
     ensures { λ r. ⌜ r ≡ wordsAt x s (triple c) ⌝ }
 {
-    let v = components(x, s, c);
-    Words {
-        y: v[0] as u16,
-        cb: v[1] as u16,
-        cr: v[2] as u16,
-    }
-}
-
-// Y', Cb and Cr.
-fn components(x: Matrix, s: u16, c: [usize; 3]) -> [u64; 3]
-    requires { ⌜ (s ≤ 16) × NominalCodes s (triple c) ⌝ }
-    ensures { λ r. ⌜ r ≡ componentsAt x s (triple c) ⌝ }
-{
     let w = x.weights();
     let m = encoding(x);
     let t = [c[0] as i64, c[1] as i64, c[2] as i64];
     let luma = dot(m[0], t);
-    [
-        exact::int_of(luma as u32, ONE as u32) as u64,
-        colour_difference(luma - dot(m[1], t), ONE - w.kb, s),
-        colour_difference(luma - dot(m[2], t), ONE - w.kr, s),
-    ]
+    Words {
+        y: exact::int_of(luma as u32, ONE as u32) as u16,
+        cb: colour_difference(luma - dot(m[1], t), ONE - w.kb, s),
+        cr: colour_difference(luma - dot(m[2], t), ONE - w.kr, s),
+    }
 }
 
 // Cb or Cr of 10000 times what Y' is above the colour, where own is what the colour's weight leaves of 10000. One multiplication
 // for a division: the step is rounded down, and what that makes in all never reaches the next word.
-fn colour_difference(above: i64, own: i64, s: u16) -> u64
+fn colour_difference(above: i64, own: i64, s: u16) -> u16
     requires { ⌜ (pos 0 <ℤ own) × (natAbs own ≤ 9500) × (s ≤ 16) × (natAbs above ≤ 2 ^ 25) × (224 * natAbs above ≤ 128 * s * (219 * 2 * natAbs own)) ⌝ }
     ensures { λ r. ⌜ r ≡ whole (rounded (colourDifference above (natAbs own) s)) ⌝ }
 {
     let middle = (Range::MIDDLE * s) as i64;
     let step = in_parts(DIFFERENCE_STEPS, STEPS * 2 * own);
     let parts = middle * PARTS + (PARTS / 2 + DIFFERENCE_COVER) - above * step;
-    parts as u64 / PARTS as u64
+    (parts as u64 / PARTS as u64) as u16
 }
 
 // 10000 times Y', B and R of (R, G, B).

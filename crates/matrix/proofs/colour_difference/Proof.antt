@@ -115,6 +115,12 @@ cast-result-2 c = search needs
 div-result : tie.Need-div-result
 div-result c = search needs
 
+cast-result-3 : tie.Need-cast-result-3
+cast-result-3 c =
+    let s = c .before in
+    rw (above-read s, step-read c, m-read s, m-parts-read s, start-read s, taken-read s, total s .is, total-read s)
+    record { fits = omega (arith, total s .most) }
+
 returns : tie.Need-returns
 returns c =
     let s = c .before in
@@ -138,4 +144,5 @@ colour-difference-spec =
     cast-result
     cast-result-2
     div-result
+    cast-result-3
     returns)

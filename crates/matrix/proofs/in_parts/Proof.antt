@@ -1,5 +1,5 @@
 use mathlib.Core.Path.{_≡_, ap, _∙_}
-use Prim.Native.Nat.{ℕ, _+_, _*_, _/_, _%_, _^_, _≤_, _<_}
+use Prim.Native.Nat.{ℕ, _+_, _*_, _/_, _%_, _≤_, _<_}
 use native.Mathlib.Nat.{div-le-of-le-mul, div-lt-iff-lt-mul, mod-lt}
 use native.Mathlib.Omega.{arith}
 use lib.IntN.{pos, natAbs}
@@ -7,7 +7,7 @@ use mir.Syntax.{w64}
 use mir.Val.{toZ, ofZ}
 use mir.ValLaws.{toZ-pos}
 use Rattle.exact.proofs.Machine.{fits-i64, reads-back, positive}
-use Rattle.matrix.proofs.Counted.{in-two-steps}
+use Rattle.matrix.proofs.Counted.{root, in-two-steps}
 use Rattle.matrix.proofs.in_parts.Statement.{statement}
 use Rattle.matrix.proofs.in_parts.Tie as tie
 
@@ -27,13 +27,13 @@ module _ (c : tie.Start) where
   above : 0 < b
   above = positive (c .args .bottom) (c .pre .1) .1
 
-  high : t * 2 ^ 24 / b ≤ 2 ^ 25
+  high : t * root / b ≤ 2 * root
   high = div-le-of-le-mul b (omega (arith, c .pre .3))
 
-  rest : t * 2 ^ 24 % b < b
-  rest = mod-lt (t * 2 ^ 24) above
+  rest : t * root % b < b
+  rest = mod-lt (t * root) above
 
-  low : t * 2 ^ 24 % b * 2 ^ 24 / b < 2 ^ 24
+  low : t * root % b * root / b < root
   low = div-lt-iff-lt-mul above .1 (omega (arith, rest))
 
 cast-t : tie.Need-cast-t
@@ -64,11 +64,11 @@ add-result : tie.Need-add-result
 add-result c = rw (top-read c, bottom-read c) record { fits = omega (arith, high c, low c) }
 
 cast-result : tie.Need-cast-result
-cast-result c = rw (top-read c, bottom-read c) (fits-i64 (pos (t c * 2 ^ 24 / b c * 2 ^ 24 + t c * 2 ^ 24 % b c * 2 ^ 24 / b c)) (omega (arith, high c, low c)))
+cast-result c = rw (top-read c, bottom-read c) (fits-i64 (pos (t c * root / b c * root + t c * root % b c * root / b c)) (omega (arith, high c, low c)))
 
 returns : tie.Need-returns
 returns c =
-    let e = toZ-pos w64 (t c * 2 ^ 24 / b c * 2 ^ 24 + t c * 2 ^ 24 % b c * 2 ^ 24 / b c) (omega (arith, high c, low c)) in
+    let e = toZ-pos w64 (t c * root / b c * root + t c * root % b c * root / b c) (omega (arith, high c, low c)) in
     rw (top-read c, bottom-read c) (e ∙ ap pos (in-two-steps (t c) (b c) (above c)))
 
 pub in-parts-spec : {M : Type 1} → statement M

@@ -48,10 +48,8 @@ module _ (bs : List ℕ) (room : ℕ) where
       pub decodable : 3 * b .samples ≤ room → Decodable (scale (b .system)) bs (b .samples) room
       decodable h =
           let shape = walk-accepted bs b e .0 in
-          let s = scale-range (b .system) in
           record {
-            scale-low = s .0;
-            scale-high = s .1;
+            scale-high = scale-range (b .system) .1;
             long = omega (arith, shape .size);
             narrow = shape .most;
             nominal = λ i l. nominal-words (b .system) (sampleAt bs (b .samples) i) (nominal-at (b .system) (sampleAt bs (b .samples)) (b .samples) i f l);

@@ -36,7 +36,6 @@ inRange r bs at (suc n) = inRange r bs at n && within r (fieldAt bs (at + 2 * n)
 
 -- a block of w samples that are nominal at a scale, and room for their codes
 pub record Decodable (s : ℕ) (bs : List ℕ) (w room : ℕ) : Type 0 where
-  pub scale-low : 0 < s
   pub scale-high : s ≤ 16
   pub long : 9 + 6 * w ≤ length bs
   pub narrow : w ≤ 7680

@@ -12,7 +12,7 @@ use Rattle.systems.specs.Systems.{kr, kg, kb}
 use Rattle.exact.specs.Signed.{Ratio, rounded}
 use Rattle.systems.specs.declared.Codes.{Codes}
 use Rattle.matrix.specs.declared.Words.{Words}
-use Rattle.matrix.specs.Triples.{luma, cbOf, crOf, whole, redOf, greenOf, blueOf}
+use Rattle.matrix.specs.Triples.{whole, redOf, greenOf, blueOf}
 
 -- the codes R, G and B that a triple holds
 abbrev pub triple : List ℕ → Codes

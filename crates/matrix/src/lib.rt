@@ -6,7 +6,7 @@ use systems::Range;
 use systems::Refusal;
 use systems::System;
 ghost use mathlib.Core.Path.{_≡_};
-ghost use Prim.Native.Nat.{_+_, _*_, _^_, _≤_, _<_};
+ghost use Prim.Native.Nat.{_+_, _*_, _^_, _≤_};
 ghost use lib.IntN.{pos, natAbs};
 ghost use lib.ListN.{getD};
 ghost use lib.Signed.{_<ℤ_};
@@ -99,7 +99,7 @@ pub fn codes_of_words(system: u32, words: Words) -> Decoded
 // The words of the codes R, G and B by BT.709's matrix; its divisors are known when the call is compiled. The codes are as wide as
 // a register, so that none has to be widened.
 pub fn words_709(s: u16, c: [usize; 3]) -> Words
-    requires { ⌜ (0 < s) × (s ≤ 16) × NominalCodes s (triple c) ⌝ }
+    requires { ⌜ (s ≤ 16) × NominalCodes s (triple c) ⌝ }
     ensures { λ r. ⌜ r ≡ wordsAt Bt709 s (triple c) ⌝ }
 {
     words_in(Matrix::Bt709, s, c)
@@ -107,7 +107,7 @@ pub fn words_709(s: u16, c: [usize; 3]) -> Words
 
 // The codes' words by BT.2020's matrix.
 pub fn words_2020(s: u16, c: [usize; 3]) -> Words
-    requires { ⌜ (0 < s) × (s ≤ 16) × NominalCodes s (triple c) ⌝ }
+    requires { ⌜ (s ≤ 16) × NominalCodes s (triple c) ⌝ }
     ensures { λ r. ⌜ r ≡ wordsAt Bt2020 s (triple c) ⌝ }
 {
     words_in(Matrix::Bt2020, s, c)

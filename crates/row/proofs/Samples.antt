@@ -2,7 +2,7 @@
 -- Assumes nothing.
 use mathlib.Core.Path.{_≡_, ap, _∙_}
 use mathlib.Core.List.{List}
-use Prim.Native.Nat.{ℕ, _+_, _*_, _≤_, _<_}
+use Prim.Native.Nat.{ℕ, _+_, _*_, _≤_}
 use native.Mathlib.Numerals.{add-one}
 use lib.ListN.{set}
 use Rattle.systems.specs.declared.Codes.{Codes}
@@ -19,10 +19,9 @@ use Rattle.row.specs.Stores.{put, headed, worded, stored}
 
 -- the codes of a sample's lights are nominal
 pub sample-nominal : (y : System) (lights : List ℕ) (i : ℕ) {s : ℕ} {c : Codes} → s ≡ scale y → c ≡ sampleCodes y lights i
-    → (0 < s) × (s ≤ 16) × NominalCodes s c
+    → (s ≤ 16) × NominalCodes s c
 sample-nominal y lights i same-scale same-codes =
     rw (same-scale, same-codes) (
-      scale-range y .0,
       scale-range y .1,
       record { r-low = code-low y _; r-high = code-high y _; g-low = code-low y _; g-high = code-high y _; b-low = code-low y _; b-high = code-high y _ },
     )

@@ -1,6 +1,6 @@
 pub mod Weights
 pub mod Clipping
-pub mod Counted
+pub mod Parts
 pub mod WayBack
 pub mod WayThere
 pub mod Fractions
@@ -8,4 +8,4 @@ pub mod Nominal
 pub mod Tested
 pub mod Raised
 pub mod Return
-pub mod Parts
+pub mod ColourDifference

@@ -1,61 +1,111 @@
--- A colour difference that is counted in parts of a word is INT of the exact fraction.
+-- A sum of fractions that is counted in parts, by entries that are rounded down, is rounded as the exact sum is.
 -- Assumes nothing.
-use mathlib.Core.Path.{_≡_, sym, ap, _∙_, subst}
-use Prim.Native.Nat.{ℕ, suc, _+_, _*_, _-_, _/_, _%_, _^_, _≤_, _<_}
-use native.Mathlib.Nat.{div-mul-le-self, le-of-mul-le-mul-right, lt-of-mul-lt-mul-right, mul-le-mul-left, mul-assoc, mul-right-comm, mul-comm, add-mul}
+use mathlib.Core.Path.{_≡_, sym, ap, _∙_}
+use Prim.Native.Nat.{ℕ, _+_, _*_, _-_, _/_, _%_, _^_, _≤_, _<_}
+use native.Mathlib.Nat.{mod-add-div', add-comm, add-mul-div-right, div-mul-le-self, lt-div-mul-add, div-eq-of-lt-le, lt-of-mul-lt-mul-right, le-of-mul-le-mul-right, mul-le-mul-left, mul-le-mul-right, mul-assoc, mul-right-comm, mul-add, add-mul}
 use native.Mathlib.Omega.{arith}
-use lib.IntN.{ℤ, pos, negsuc, natAbs, subℕ, _-ℤ_, _*ℤ_, +ℤ-idr}
-use Rattle.exact.specs.Signed.{rounded}
-use Rattle.exact.proofs.Difference.{pos-sub, neg-sub, sub-pos, sub-minus, sub-mul}
-use Rattle.exact.proofs.Nearest.{rounds}
+use lib.IntN.{ℤ, pos, subℕ, _+ℤ_}
+use Rattle.exact.proofs.Difference.{pos-sub, sub-pos, sub-add}
+use Rattle.exact.proofs.Nearest.{Rounds}
 use Rattle.matrix.specs.Triples.{whole}
 use Rattle.matrix.specs.Rows.{parts, inParts}
-use Rattle.matrix.proofs.Counted.{counted-quotient}
 
--- the most steps that there are
-abbrev pub cover : ℕ
-cover = 2 ^ 25
+-- its square is the parts
+abbrev pub root : ℕ
+root = 2 ^ 24
 
--- m and a half, and what the steps can be off
-abbrev pub start : ℕ → ℕ
-start m = m * parts + (parts / 2 + cover)
+-- divided twice, each time with half of the places
+pub in-two-steps : (t b : ℕ) → 0 < b → t * root / b * root + t * root % b * root / b ≡ inParts t b
+in-two-steps t b B =
+    let a = t * root in
+    let q = a / b in
+    let r = a % b in
+    let e : (r + q * b) * root ≡ a * root = ap (λ (x : ℕ). x * root) (mod-add-div' a b) in
+    let f : r * root + q * root * b ≡ t * parts = omega (arith, add-mul r (q * b) root, mul-right-comm q root b) in
+    add-comm (q * root) (r * root / b) ∙ sym (add-mul-div-right (r * root) (q * root) B) ∙ ap (λ (x : ℕ). x / b) f
 
--- the parts of m - 224·z/b
-pub record Counted (z : ℤ) (m b : ℕ) : Type 0 where
-  pub value : ℕ
-  pub is : pos (start m) -ℤ z *ℤ pos (inParts 224 b) ≡ pos value
-  pub most : value < 2 ^ 62
-  pub quotient : value / parts ≡ whole (rounded record { top = pos (m * b) -ℤ z *ℤ pos 224; bottom = b })
+lifted : (a b k : ℕ) → b ≤ a + k → whole (subℕ a b +ℤ pos k) ≡ a + k - b
+lifted a b k h =
+    let e : a + k - (b + 0) ≡ a + k - b = omega arith in
+    ap whole ((λ i. subℕ a b +ℤ pos-sub k i) ∙ sub-add a b k 0 ∙ sub-pos (a + k) (b + 0) (omega arith)) ∙ e
 
-module _ (m b : ℕ) (M : m ≤ 2048) (B : 0 < b) (B' : b < 2 ^ 22) (E : b % 2 ≡ 0) where
-  abbrev step : ℕ
-  step = inParts 224 b
+-- fractions over d, which is even, by up to n and n'
+module _ (d n n' : ℕ) (D : 0 < d) (E : d % 2 ≡ 0) (S : 2 * (n * d + n' * d) < parts) where
+  -- what an entry is short of its fraction, by d
+  abbrev short : ℕ → ℕ
+  short a = a * parts - inParts a d * d
 
-  -- up to m words are taken off
-  pub taken-small : (n : ℕ) → 224 * n ≤ m * b → n * step ≤ m * parts
-  taken-small n l =
-      let e : step * b ≤ 224 * parts = div-mul-le-self (224 * parts) b in
-      let f : n * (step * b) ≤ n * (224 * parts) = mul-le-mul-left n e in
-      le-of-mul-le-mul-right {k = b} (omega (arith, mul-assoc n step b, mul-right-comm m parts b)) B
+  entry : (a : ℕ) → (inParts a d * d + short a ≡ a * parts) × (short a ≤ d)
+  entry a =
+      let l : inParts a d * d ≤ a * parts = div-mul-le-self (a * parts) d in
+      let u : a * parts < inParts a d * d + d = lt-div-mul-add D in
+      (omega arith, omega arith)
 
-  -- z = a - c
-  counted-difference : (a c : ℕ) → a ≤ c + cover → c ≤ a + cover → 224 * a ≤ m * b → 224 * c ≤ m * b → Counted (subℕ a c) m b
-  counted-difference a c A C A' C' =
-      let p = m * b + c * 224 in
-      let q = 0 + a * 224 in
-      let r = rounds p q b B in
-      let top-is : pos (m * b) -ℤ subℕ a c *ℤ pos 224 ≡ subℕ p q = (λ i. pos-sub (m * b) i -ℤ sub-mul a c 224 i) ∙ sub-minus (m * b) 0 (a * 224) (c * 224) in
-      let below : r .down * b < (r .up + 1) * b = omega (arith, r .not-under, add-mul (r .up) 1 b) in
-      let not-below : r .down < r .up + 1 = lt-of-mul-lt-mul-right b below in
-      let law = counted-quotient b cover 0 B E (omega arith) m c a 224 0 0 0 0 C A (omega arith) (omega arith) p q (rounded record { top = subℕ p q; bottom = b }) r (omega (arith, mul-comm m b)) (omega arith) (omega arith) in
-      let sum : start m + c * step - (0 + a * step) ≡ parts * m + c * step + 0 * inParts 0 b + (0 * parts + parts / 2 + (cover + 0)) - (a * step + 0 * inParts 0 b) = omega arith in
-      record {
-        value = start m + c * step - (0 + a * step);
-        is = (λ i. pos-sub (start m) i -ℤ sub-mul a c step i) ∙ sub-minus (start m) 0 (a * step) (c * step) ∙ sub-pos (start m + c * step) (0 + a * step) (omega (arith, taken-small a A'));
-        most = omega (arith, taken-small c C');
-        quotient = ap (λ (x : ℕ). x / parts) sum ∙ law ∙ ap whole (+ℤ-idr (rounded record { top = subℕ p q; bottom = b })) ∙ sym (ap (λ (x : ℤ). whole (rounded record { top = x; bottom = b })) top-is);
-      }
+  times : (k a : ℕ) → k * inParts a d * d + k * short a ≡ k * a * parts
+  times k a =
+      ap (λ (x : ℕ). x + k * short a) (mul-assoc k (inParts a d) d) ∙ sym (mul-add k (inParts a d * d) (short a))
+      ∙ ap (λ (x : ℕ). k * x) (entry a .0) ∙ sym (mul-assoc k a parts)
 
-  pub counted : (z : ℤ) → natAbs z ≤ cover → 224 * natAbs z ≤ m * b → Counted z m b
-  counted (pos k) h l = subst (λ (z : ℤ). Counted z m b) (sym (pos-sub k)) (counted-difference k 0 (omega arith) (omega arith) l (omega arith))
-  counted (negsuc k) h l = subst (λ (z : ℤ). Counted z m b) (sym (neg-sub (suc k))) (counted-difference 0 (suc k) (omega arith) (omega arith) (omega arith) l)
+  -- what up to k entries more are short
+  rounding : (k u v a : ℕ) → u ≤ v + k → u * short a ≤ v * short a + k * d
+  rounding k u v a h =
+      let l : u * short a ≤ (v + k) * short a = mul-le-mul-right (short a) h in
+      let e : (v + k) * short a ≡ v * short a + k * short a = add-mul v k (short a) in
+      let m : k * short a ≤ k * d = mul-le-mul-left k (entry a .1) in
+      omega arith
+
+  -- y and two differences, u less v each, by a fraction a/d each, raised by l
+  module _ (y u v a u' v' a' l : ℕ) (U : u ≤ v + n) (L : v ≤ u + n) (U' : u' ≤ v' + n') (L' : v' ≤ u' + n') where
+    abbrev plus : ℕ
+    plus = parts * y + u * inParts a d + u' * inParts a' d
+
+    abbrev minus : ℕ
+    minus = v * inParts a d + v' * inParts a' d
+
+    abbrev lead : ℕ
+    lead = l * parts + parts / 2 + (n + n')
+
+    -- what the parts come to, by d
+    plus-by : (plus + lead) * d + (u * short a + u' * short a') ≡ parts * (d * y + u * a + u' * a' + l * d) + parts / 2 * d + (n * d + n' * d)
+    plus-by =
+        let e : (plus + lead) * d ≡ plus * d + lead * d = add-mul plus lead d in
+        let f : plus * d ≡ (parts * y + u * inParts a d) * d + u' * inParts a' d * d = add-mul (parts * y + u * inParts a d) (u' * inParts a' d) d in
+        let g : (parts * y + u * inParts a d) * d ≡ parts * y * d + u * inParts a d * d = add-mul (parts * y) (u * inParts a d) d in
+        let h : parts * y * d ≡ parts * d * y = mul-right-comm parts y d in
+        let i : lead * d ≡ (l * parts + parts / 2) * d + (n + n') * d = add-mul (l * parts + parts / 2) (n + n') d in
+        let j : (l * parts + parts / 2) * d ≡ l * parts * d + parts / 2 * d = add-mul (l * parts) (parts / 2) d in
+        omega (arith, times u a, times u' a', mul-assoc parts d y, add-mul n n' d, mul-right-comm l parts d)
+
+    minus-by : minus * d + (v * short a + v' * short a') ≡ parts * (v * a + v' * a')
+    minus-by =
+        let e : minus * d ≡ v * inParts a d * d + v' * inParts a' d * d = add-mul (v * inParts a d) (v' * inParts a' d) d in
+        omega (arith, times v a, times v' a')
+
+    -- a sum p - q over d that is z when it is rounded
+    module _ (p q : ℕ) (z : ℤ) (r : Rounds p q d z) (P : p ≡ d * y + u * a + u' * a') (Q : q ≡ v * a + v' * a') (R : r .down ≤ r .up + l) where
+      -- the rounded sum, raised
+      abbrev k : ℕ
+      k = r .up + l - r .down
+
+      -- what both are, by d
+      within : (k * d + r .down * d ≡ r .up * d + l * d) × (u * short a + u' * short a' ≤ v * short a + v' * short a' + (n * d + n' * d)) × (v * short a + v' * short a' ≤ u * short a + u' * short a' + (n * d + n' * d))
+      within =
+          let e : k + r .down ≡ r .up + l = omega arith in
+          let f : k * d + r .down * d ≡ r .up * d + l * d = sym (add-mul k (r .down) d) ∙ ap (λ (x : ℕ). x * d) e ∙ add-mul (r .up) l d in
+          (f, omega (arith, rounding n u v a U, rounding n' u' v' a' U'), omega (arith, rounding n v u a L, rounding n' v' u' a' L'))
+
+      fits : minus ≤ plus + lead
+      fits = le-of-mul-le-mul-right {k = d} (omega (arith, plus-by, minus-by, within, r .not-over)) D
+
+      pub counted-quotient : (plus + lead - minus) / parts ≡ whole (z +ℤ pos l)
+      counted-quotient =
+          let t = plus + lead - minus in
+          let sum : t * d + minus * d ≡ (plus + lead) * d = sym (add-mul t minus d) ∙ ap (λ (x : ℕ). x * d) (omega (arith, fits)) in
+          let low : k * parts * d ≡ k * d * parts = mul-right-comm k parts d in
+          let high : (k + 1) * parts * d ≡ (k + 1) * d * parts = mul-right-comm (k + 1) parts d in
+          let next : (k + 1) * d ≡ k * d + 1 * d = add-mul k 1 d in
+          let quotient : t / parts ≡ k = div-eq-of-lt-le parts (le-of-mul-le-mul-right {k = d} (omega (arith, plus-by, minus-by, within, r .not-over)) D) (lt-of-mul-lt-mul-right d (omega (arith, plus-by, minus-by, within, r .not-under))) in
+          quotient ∙ sym (ap (λ (x : ℤ). whole (x +ℤ pos l)) (r .is) ∙ lifted (r .up) (r .down) l R)
+
+      pub counted-rounds : whole (subℕ plus minus +ℤ pos lead) / parts ≡ whole (z +ℤ pos l)
+      counted-rounds = ap (λ (x : ℕ). x / parts) (lifted plus minus lead fits) ∙ counted-quotient

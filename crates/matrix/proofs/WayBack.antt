@@ -18,7 +18,7 @@ use Rattle.matrix.specs.Triples.{primary, signed, redOf, greenOf, blueOf
 use Rattle.matrix.specs.Rows.{NominalWords, Small, dotted, parts, inParts, reach, decodingRows, raised, raisedAt, counted}
 use Rattle.matrix.proofs.Fractions.{signed-by, primary-rounds, green-rounds}
 use Rattle.matrix.proofs.Raised.{green-divisor, rounds-within}
-use Rattle.matrix.proofs.Counted.{counted-rounds}
+use Rattle.matrix.proofs.Parts.{counted-rounds}
 
 -- the triple that the rows multiply
 abbrev pub triple : ℕ → ℤ → ℤ → List ℤ

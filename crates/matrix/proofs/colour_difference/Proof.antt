@@ -8,7 +8,7 @@ use mir.ValLaws.{toZ-ofZ, toZ-pos}
 use borrow.Author.Needs.{needs, sfits-of}
 use Rattle.exact.proofs.Machine.{natAbs-mul, fits-i64, reads-back, positive, is-positive}
 use Rattle.matrix.specs.Rows.{parts, inParts}
-use Rattle.matrix.proofs.Parts.{Counted, start, counted, taken-small}
+use Rattle.matrix.proofs.ColourDifference.{Counted, start, counted, taken-small}
 use Rattle.matrix.proofs.colour_difference.Statement.{statement}
 use Rattle.matrix.proofs.colour_difference.Tie as tie
 

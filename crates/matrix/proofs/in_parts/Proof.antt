@@ -7,7 +7,7 @@ use mir.Syntax.{w64}
 use mir.Val.{toZ, ofZ}
 use mir.ValLaws.{toZ-pos}
 use Rattle.exact.proofs.Machine.{fits-i64, reads-back, positive}
-use Rattle.matrix.proofs.Counted.{root, in-two-steps}
+use Rattle.matrix.proofs.Parts.{root, in-two-steps}
 use Rattle.matrix.proofs.in_parts.Statement.{statement}
 use Rattle.matrix.proofs.in_parts.Tie as tie
 

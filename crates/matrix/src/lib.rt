@@ -96,7 +96,7 @@ pub fn codes_of_words(system: u32, words: Words) -> Decoded
     }
 }
 
-// The words of the codes R, G and B by BT.709's matrix; its divisors are known when the call is compiled. The codes are as wide as
+// The words of the codes R, G and B by BT.709's matrix; its weights are known when the call is compiled. The codes are as wide as
 // a register, so that none has to be widened.
 pub fn words_709(s: u16, c: [usize; 3]) -> Words
     requires { ⌜ (s ≤ 16) × NominalCodes s (triple c) ⌝ }

@@ -48,7 +48,7 @@ pub fn write_row(y: System, row: u16, width: u16, lights: &[u16], out: &mut [u8]
     }
 }
 
-// Every sample by BT.709's matrix; a loop of its own for each matrix makes the divisors constants.
+// Every sample by BT.709's matrix; a loop of its own for each matrix makes the weights constants.
 fn row_709<'a>(
     y: System,
     boundaries: &'a [u16],

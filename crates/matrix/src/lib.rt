@@ -102,7 +102,7 @@ pub fn words_709(s: u16, c: [usize; 3]) -> Words
     requires { ⌜ (s ≤ 16) × NominalCodes s (triple c) ⌝ }
     ensures { λ r. ⌜ r ≡ wordsAt Bt709 s (triple c) ⌝ }
 {
-    words_in(Matrix::Bt709, s, c)
+    words_by(Matrix::Bt709, s, c)
 }
 
 // The codes' words by BT.2020's matrix.
@@ -110,7 +110,7 @@ pub fn words_2020(s: u16, c: [usize; 3]) -> Words
     requires { ⌜ (s ≤ 16) × NominalCodes s (triple c) ⌝ }
     ensures { λ r. ⌜ r ≡ wordsAt Bt2020 s (triple c) ⌝ }
 {
-    words_in(Matrix::Bt2020, s, c)
+    words_by(Matrix::Bt2020, s, c)
 }
 
 // The nearer end of the range where a raised component is beyond it.
@@ -151,7 +151,19 @@ impl Words {
     }
 }
 
+// The words of one triple: an arm for each matrix makes its entries constants.
 fn words_in(x: Matrix, s: u16, c: [usize; 3]) -> Words
+    requires { ⌜ (s ≤ 16) × NominalCodes s (triple c) ⌝ }
+    ensures { λ r. ⌜ r ≡ wordsAt x s (triple c) ⌝ }
+{
+    match x {
+        Matrix::Bt709 => words_709(s, c),
+        Matrix::Bt2020 => words_2020(s, c),
+    }
+}
+
+// Y', Cb and Cr by the rows of a matrix.
+fn words_by(x: Matrix, s: u16, c: [usize; 3]) -> Words
     requires { ⌜ (s ≤ 16) × NominalCodes s (triple c) ⌝ }
     ensures { λ r. ⌜ r ≡ wordsAt x s (triple c) ⌝ }
 {
@@ -190,7 +202,7 @@ fn codes_in(x: Matrix, s: u16, w: Words) -> Clipped
     requires { ⌜ (s ≤ 16) × NominalWords s w ⌝ }
     ensures { λ r. ⌜ r ≡ codesAt x s w ⌝ }
 {
-    let v = raised_in(x, s, w);
+    let v = raised_of(x, s, w);
     let n = Range {
         low: Range::BLACK * s,
         high: Range::WHITE * s,
@@ -218,6 +230,17 @@ pub fn raised_in(x: Matrix, s: u16, w: Words) -> Codes
         r: primary(m[0], t),
         g: primary(m[1], t),
         b: primary(m[2], t),
+    }
+}
+
+// The same for one triple: an arm for each matrix makes its entries constants.
+fn raised_of(x: Matrix, s: u16, w: Words) -> Codes
+    requires { ⌜ (s ≤ 16) × NominalWords s w ⌝ }
+    ensures { λ r. ⌜ r ≡ raisedAt x s w ⌝ }
+{
+    match x {
+        Matrix::Bt709 => raised_in(Matrix::Bt709, s, w),
+        Matrix::Bt2020 => raised_in(Matrix::Bt2020, s, w),
     }
 }
 

@@ -3,8 +3,8 @@ use Rattle.matrix.proofs.Raised.{codes-from-raised}
 use Rattle.matrix.proofs.codes_in.Statement.{statement}
 use Rattle.matrix.proofs.codes_in.Tie as tie
 
-raised-in-requires : tie.Need-raised-in-requires
-raised-in-requires c κs = search needs
+raised-of-requires : tie.Need-raised-of-requires
+raised-of-requires c κs = search needs
 
 mul-count : tie.Need-mul-count
 mul-count c = search needs
@@ -42,14 +42,14 @@ cast-t12 c = search needs
 returns : tie.Need-returns
 returns c =
     let p = c .before .before .before .before .before .before in
-    rw (c .before .before .before .before .before .clip .ensures, c .before .before .before .before .clip2 .ensures, c .before .before .before .clip3 .ensures, c .before .before .beyond .ensures .0, c .before .beyond2 .ensures .0, c .beyond3 .ensures .0, p .raised-in .ensures)
+    rw (c .before .before .before .before .before .clip .ensures, c .before .before .before .before .clip2 .ensures, c .before .before .before .clip3 .ensures, c .before .before .beyond .ensures .0, c .before .beyond2 .ensures .0, c .beyond3 .ensures .0, p .raised-of .ensures)
     (codes-from-raised _ _ _ (p .before .pre .0) (p .before .pre .1))
 
 pub codes-in-spec : {M : Type 1} → statement M
 codes-in-spec =
     tie.close
     (tie.spec
-    raised-in-requires
+    raised-of-requires
     mul-count
     mul-count-2
     clip-requires

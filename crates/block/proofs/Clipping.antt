@@ -1,4 +1,4 @@
--- Raised components clipped one by one, and the codes of a row that they come to.
+-- Biased components clipped one by one, and the codes of a row that they come to.
 -- Assumes nothing.
 use mathlib.Core.Path.{_≡_, refl, sym, ap, _∙_}
 use mathlib.Core.List.{List, [], _∷_, _++_}
@@ -12,17 +12,18 @@ use Rattle.systems.specs.declared.Range.{Range}
 use Rattle.matrix.specs.declared.Clipped.{Clipped}
 use Rattle.matrix.specs.declared.Words.{Words}
 use Rattle.matrix.specs.Triples.{clipped, beyond}
-use Rattle.matrix.specs.Rows.{NominalWords, lowered, raisedAt}
-use Rattle.matrix.proofs.Raised.{codes-from-raised}
+use Rattle.matrix.specs.Rows.{NominalWords, unclippedAt}
+use Rattle.matrix.proofs.Tested.{twelve-bits}
 use Rattle.block.specs.Read.{decoded, listed, codesTo, clippedTo}
-use Rattle.block.specs.Steps.{raisedRow, listedTo, clippedAll, beyondAll}
+use Rattle.block.specs.Steps.{unbiased, biasedTriple, biasedRow, listedTo, clippedAll, beyondAll}
+use Rattle.block.proofs.Bias.{codes-from-biased}
 use Rattle.block.proofs.Decoding.{length-listed}
 
 module _ (r : Range) where
   clipped-append : (a b : List ℕ) → clippedAll r (a ++ b) ≡ clippedAll r a ++ clippedAll r b
   unfolding clippedAll
   clipped-append [] b = refl
-  clipped-append (v ∷ a) b = ap (λ (t : List ℕ). clipped r (lowered v) ∷ t) (clipped-append a b)
+  clipped-append (v ∷ a) b = ap (λ (t : List ℕ). clipped r (unbiased v) ∷ t) (clipped-append a b)
 
   beyond-append : (a b : List ℕ) → beyondAll r (a ++ b) ≡ beyondAll r a + beyondAll r b
   unfolding beyondAll
@@ -60,22 +61,22 @@ module _ (r : Range) where
       same : getD d i 0 ≡ getD slice i 0
       same = ap (λ (t : List ℕ). getD t i 0) cut ∙ getD-at (clippedAll r (take i slice)) (getD slice i 0) (drop (suc i) slice) 0 i front-long
 
-      pub one-more : (b c : ℕ) → (b ≡ beyond r (lowered (getD d i 0))) × (b ≤ 1) → c ≡ clipped r (lowered (getD d i 0)) → SoFar slice (i + 1) (bad + b) (set d i c)
+      pub one-more : (b c : ℕ) → (b ≡ beyond r (unbiased (getD d i 0))) × (b ≤ 1) → c ≡ clipped r (unbiased (getD d i 0)) → SoFar slice (i + 1) (bad + b) (set d i c)
       unfolding clippedAll beyondAll
       one-more b c (p, u) q =
           let front = take i slice in
           let v = getD slice i 0 in
           let t : take (suc i) slice ≡ front ++ (v ∷ []) = take-suc slice i 0 h in
           let e = beyond-append front (v ∷ []) in
-          let b' : b ≡ beyond r (lowered v) = p ∙ ap (λ (k : ℕ). beyond r (lowered k)) same in
-          let c' : c ≡ clipped r (lowered v) = q ∙ ap (λ (k : ℕ). clipped r (lowered k)) same in
+          let b' : b ≡ beyond r (unbiased v) = p ∙ ap (λ (k : ℕ). beyond r (unbiased k)) same in
+          let c' : c ≡ clipped r (unbiased v) = q ∙ ap (λ (k : ℕ). clipped r (unbiased k)) same in
           let m : bad + b ≡ beyondAll r (front ++ (v ∷ [])) = omega (arith, f .counted) in
           rw (add-one i) record {
             within = h;
             few = omega (arith, f .few);
             counted = m ∙ ap (beyondAll r) (sym t);
-            codes = (λ k. set (cut k) i (c' k)) ∙ set-at (clippedAll r front) v (drop (suc i) slice) (clipped r (lowered v)) i front-long
-                ∙ sym (append-snoc (clippedAll r front) (clipped r (lowered v)) (drop (suc i) slice))
+            codes = (λ k. set (cut k) i (c' k)) ∙ set-at (clippedAll r front) v (drop (suc i) slice) (clipped r (unbiased v)) i front-long
+                ∙ sym (append-snoc (clippedAll r front) (clipped r (unbiased v)) (drop (suc i) slice))
                 ∙ ap (λ (l : List ℕ). l ++ drop (suc i) slice) (sym (clipped-append front (v ∷ [])) ∙ ap (clippedAll r) (sym t));
           }
 
@@ -90,24 +91,24 @@ module _ (x : Matrix) (s : ℕ) (row : ℕ → Words) (S : s ≤ 16) where
   range = record { low = 16 * s; high = 235 * s }
 
   row-clipped : (n : ℕ) → ((i : ℕ) → i < n → NominalWords s (row i))
-      → (clippedAll range (listedTo (raisedRow x s row) n) ≡ codesTo (decoded x s row) n) × (beyondAll range (listedTo (raisedRow x s row) n) ≡ clippedTo (decoded x s row) n)
+      → (clippedAll range (listedTo (biasedRow x s row) n) ≡ codesTo (decoded x s row) n) × (beyondAll range (listedTo (biasedRow x s row) n) ≡ clippedTo (decoded x s row) n)
   unfolding listedTo codesTo clippedTo clippedAll beyondAll
   row-clipped zero h = (refl, refl)
   row-clipped (suc n) h =
       let before = row-clipped n (λ i l. h i (omega arith)) in
-      let here = codes-from-raised x s (row n) S (h n (omega arith)) in
-      let v = listed (raisedAt x s (row n)) in
-      let b = beyond-append range (listedTo (raisedRow x s row) n) v in
+      let here = codes-from-biased x s (row n) S (twelve-bits s (row n) S (h n (omega arith))) in
+      let v = listed (biasedTriple (unclippedAt x s (row n))) in
+      let b = beyond-append range (listedTo (biasedRow x s row) n) v in
       let k : beyondAll range v ≡ decoded x s row n .count = omega (arith, ap (λ (t : Clipped). t .count) here) in
-      (clipped-append range (listedTo (raisedRow x s row) n) v ∙ (λ j. before .0 j ++ listed (here j .codes)), b ∙ (λ j. before .1 j + k j))
+      (clipped-append range (listedTo (biasedRow x s row) n) v ∙ (λ j. before .0 j ++ listed (here j .codes)), b ∙ (λ j. before .1 j + k j))
 
-  -- raised, then clipped
-  pub clipped-row : (n : ℕ) (slice mid : List ℕ) → ((i : ℕ) → i < n → NominalWords s (row i)) → mid ≡ listedTo (raisedRow x s row) n ++ drop (3 * n) slice
+  -- biased, then clipped
+  pub clipped-row : (n : ℕ) (slice mid : List ℕ) → ((i : ℕ) → i < n → NominalWords s (row i)) → mid ≡ listedTo (biasedRow x s row) n ++ drop (3 * n) slice
       → (beyondAll range (take (3 * n) mid) ≡ clippedTo (decoded x s row) n)
       × (clippedAll range (take (3 * n) mid) ++ drop (3 * n) mid ≡ codesTo (decoded x s row) n ++ drop (3 * n) slice)
   clipped-row n slice mid h e =
-      let front = listedTo (raisedRow x s row) n in
+      let front = listedTo (biasedRow x s row) n in
       let rest = drop (3 * n) slice in
-      let l = length-listed (raisedRow x s row) n in
+      let l = length-listed (biasedRow x s row) n in
       let done = row-clipped n h in
       rw (e, take-at front rest (3 * n) l, drop-at front rest (3 * n) l) (done .1, ap (λ (t : List ℕ). t ++ rest) (done .0))

@@ -1,6 +1,7 @@
 pub mod Walking
 pub mod Nominal
 pub mod Decoding
+pub mod Bias
 pub mod Clipping
 pub mod Reading
 pub mod Bytes

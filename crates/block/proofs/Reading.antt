@@ -12,7 +12,6 @@ use borrow.Author.Tests.{le-leb, lt-leb, leb-true}
 use Rattle.exact.specs.Outcome.{Outcome, accepted, refused}
 use Rattle.exact.proofs.Outcome.{accepted-first, required}
 use Rattle.systems.specs.Systems.{scale}
-use Rattle.systems.proofs.Scales.{scale-range}
 use Rattle.matrix.proofs.Tested.{nominal-words}
 use Rattle.block.specs.declared.Header.{Header}
 use Rattle.block.specs.declared.Walked.{Walked}
@@ -49,7 +48,6 @@ module _ (bs : List ℕ) (room : ℕ) where
       decodable h =
           let shape = walk-accepted bs b e .0 in
           record {
-            scale-high = scale-range (b .system) .1;
             long = omega (arith, shape .size);
             narrow = shape .most;
             nominal = λ i l. nominal-words (b .system) (sampleAt bs (b .samples) i) (nominal-at (b .system) (sampleAt bs (b .samples)) (b .samples) i f l);

@@ -37,8 +37,8 @@ section-of-one-count : (bs : List ℕ) (i w : ℕ) → sectionAt bs i (within (o
 section-of-one-count bs i w = rw (one-count w (fieldAt bs i))
 
 -- what the section of a count that is known says
-pub section-said : (bs : List ℕ) (i w : ℕ) (r t : Counted) → toldCount r ≡ sectionAt bs i (within (only w)) → r ≡ t → sectionAt bs i (eqb w) ≡ toldCount t
-section-said bs i w r t e p = sym (e ∙ section-of-one-count bs i w) ∙ ap toldCount p
+pub section-said : (bs : List ℕ) (i w : ℕ) (r : Counted) → toldCount r ≡ sectionAt bs i (within (only w)) → sectionAt bs i (eqb w) ≡ toldCount r
+section-said bs i w r e = sym (e ∙ section-of-one-count bs i w)
 
 -- an outcome that was required and is accepted
 pub passed : {A : Type 0} (t : Bool) (n : ℕ) (o : Outcome A) (a : A) → require t n o ≡ accepted a → (t ≡ true) × (o ≡ accepted a)

@@ -1,5 +1,5 @@
 -- The bytes of a row block (document 01, 'Row block'). Definitions only.
-use Prim.Native.Nat.{ℕ, _/_, _%_}
+use Prim.Native.Nat.{ℕ, _+_, _*_, _/_, _%_}
 use mathlib.Core.List.{List, [], _∷_, _++_}
 use lib.ListN.{length, getD}
 use Rattle.matrix.specs.declared.Words.{Words}
@@ -20,6 +20,10 @@ section ws = field (length ws) ++ fields ws
 -- the block of a row: system, row number, and the sections Y', Cb, Cr
 unfoldable pub block : ℕ → ℕ → List ℕ → List ℕ → List ℕ → List ℕ
 block n row ys cbs crs = n ∷ field row ++ section ys ++ section cbs ++ section crs
+
+-- the bytes of a row of w samples
+abbrev pub size : ℕ → ℕ
+size w = 9 + 6 * w
 
 -- the words of sample i of a row
 abbrev pub sampleOf : List ℕ → List ℕ → List ℕ → ℕ → Words

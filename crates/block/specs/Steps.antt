@@ -1,8 +1,11 @@
--- The steps of reading a block, as the contracts of the reader's own functions state them.
+-- Inner definitions, which the contracts of the crate's own functions cite: the steps of reading a block. Nothing here has to be
+-- believed.
 -- Definitions only.
-use Prim.Native.Nat.{ℕ, zero, suc, _+_, _*_, _≤_, _<_}
-use mathlib.Core.Bool.{Bool, true, _&&_}
+use Prim.Native.Nat.{ℕ, zero, suc, _+_, _*_, _^_, _≤_, _<_}
+use mathlib.Core.Bool.{Bool, true, false, _&&_}
 use mathlib.Core.List.{List, [], _∷_, _++_}
+use lib.Dec.{ltb}
+use lib.IntN.{ℤ, pos, natAbs, _+ℤ_, _-ℤ_}
 use lib.ListN.{length}
 use Rattle.exact.specs.Outcome.{Outcome, accepted, refused}
 use Rattle.systems.specs.declared.Codes.{Codes}
@@ -11,8 +14,9 @@ use Rattle.systems.specs.declared.Range.{Range}
 use Rattle.systems.specs.Systems.{within}
 use Rattle.systems.specs.Refusals.{refusal}
 use Rattle.matrix.specs.declared.Words.{Words}
-use Rattle.matrix.specs.Triples.{clipped, beyond}
-use Rattle.matrix.specs.Rows.{NominalWords, raisedAt, lowered}
+use Rattle.matrix.specs.declared.Unclipped.{Unclipped}
+use Rattle.matrix.specs.Triples.{whole, clipped, beyond}
+use Rattle.matrix.specs.Rows.{NominalWords, unclippedAt}
 use Rattle.block.specs.declared.Walked.{Walked}
 use Rattle.block.specs.declared.Counted.{Counted}
 use Rattle.block.specs.declared.Counted.the-variants as counted
@@ -36,26 +40,57 @@ inRange r bs at (suc n) = inRange r bs at n && within r (fieldAt bs (at + 2 * n)
 
 -- a block of w samples that are nominal at a scale, and room for their codes
 pub record Decodable (s : ℕ) (bs : List ℕ) (w room : ℕ) : Type 0 where
-  pub scale-high : s ≤ 16
   pub long : 9 + 6 * w ≤ length bs
   pub narrow : w ≤ 7680
   pub nominal : (i : ℕ) → i < w → NominalWords s (sampleAt bs w i)
   pub fits : 3 * w ≤ room
 
--- R, G and B of a row's samples before they are clipped, raised
-abbrev pub raisedRow : Matrix → ℕ → (ℕ → Words) → ℕ → Codes
-raisedRow x s row i = raisedAt x s (row i)
+-- a component as the slice holds it until it is clipped, and back
+abbrev pub biased : ℤ → ℕ
+biased v = whole (v +ℤ pos 16384)
+
+abbrev pub unbiased : ℕ → ℤ
+unbiased n = pos n -ℤ pos 16384
+
+-- components that the bias brings to 0 or above
+pub record BiasFits (v : Unclipped) : Type 0 where
+  pub r : natAbs (v .r) ≤ 2 ^ 14
+  pub g : natAbs (v .g) ≤ 2 ^ 14
+  pub b : natAbs (v .b) ≤ 2 ^ 14
+
+abbrev pub biasedTriple : Unclipped → Codes
+biasedTriple v = record { r = biased (v .r); g = biased (v .g); b = biased (v .b) }
+
+-- R, G and B of a row's samples before they are clipped
+abbrev pub biasedRow : Matrix → ℕ → (ℕ → Words) → ℕ → Codes
+biasedRow x s row i = biasedTriple (unclippedAt x s (row i))
 
 -- the triples of a row's first n samples, one behind the other
 unfoldable pub listedTo : (ℕ → Codes) → ℕ → List ℕ
 listedTo row zero = []
 listedTo row (suc n) = listedTo row n ++ listed (row n)
 
--- raised components clipped to a range, and how many of them were beyond it
+-- a range to which biased components can be clipped
+pub record Clippable (n : Range) : Type 0 where
+  pub in-order : n .low ≤ n .high
+  pub small : n .high < 2 ^ 12
+
+-- a number, or the end that it is beyond
+abbrev pub oneOf : Bool → ℕ → ℕ → ℕ
+oneOf true end v = end
+oneOf false end v = v
+
+abbrev pub atLeast : ℕ → ℕ → ℕ
+atLeast v low = oneOf (ltb v low) low v
+
+abbrev pub atMost : ℕ → ℕ → ℕ
+atMost v high = oneOf (ltb high v) high v
+
+-- biased components clipped to a range, and how many of them were beyond it
 unfoldable pub clippedAll : Range → List ℕ → List ℕ
 clippedAll r [] = []
-clippedAll r (v ∷ vs) = clipped r (lowered v) ∷ clippedAll r vs
+clippedAll r (v ∷ vs) = clipped r (unbiased v) ∷ clippedAll r vs
 
 unfoldable pub beyondAll : Range → List ℕ → ℕ
 beyondAll r [] = 0
-beyondAll r (v ∷ vs) = beyond r (lowered v) + beyondAll r vs
+beyondAll r (v ∷ vs) = beyond r (unbiased v) + beyondAll r vs

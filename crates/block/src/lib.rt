@@ -1,9 +1,20 @@
 // The row block, and reading it (document 01, 'Row block').
+mod layout;
+
+pub use layout::LUMA_COUNT;
+pub use layout::ROW_NUMBER;
+pub use layout::SYSTEM;
+pub use layout::cb_count;
+pub use layout::cb_word;
+pub use layout::cr_count;
+pub use layout::cr_word;
+pub use layout::luma_word;
+pub use layout::size;
+use matrix::Unclipped;
 use matrix::Words;
-use matrix::beyond;
-use matrix::clip;
-use matrix::raised_in;
-use systems::Codes;
+use matrix::unclipped_by;
+use systems::MOST_ROWS;
+use systems::MOST_SAMPLES;
 use systems::Matrix;
 use systems::Named;
 use systems::Range;
@@ -11,14 +22,16 @@ use systems::Refusal;
 use systems::System;
 ghost use mathlib.Core.Path.{_≡_};
 ghost use mathlib.Core.List.{_++_};
-ghost use Prim.Native.Nat.{_+_, _*_, _<_, _≤_};
+ghost use Prim.Native.Nat.{_+_, _*_, _^_, _<_, _≤_};
 ghost use lib.Dec.{eqb};
+ghost use lib.IntN.{natAbs};
 ghost use lib.ListN.{length, take, drop};
 ghost use lib.Seq.{sets};
 ghost use Rattle.systems.specs.Systems.{scale, within};
-ghost use Rattle.matrix.specs.Rows.{Clippable};
+ghost use Rattle.matrix.specs.Triples.{clipped, beyond};
+ghost use Rattle.block.specs.Block.{size};
 ghost use Rattle.block.specs.Read.{fieldAt, sectionAt, sections, walk, sampleAt, nominalTo, listed, codesTo, clippedTo, rowOf, headerOf, sliceAfter, toldHeader};
-ghost use Rattle.block.specs.Steps.{toldCount, toldWalk, inRange, Decodable, raisedRow, listedTo, clippedAll, beyondAll};
+ghost use Rattle.block.specs.Steps.{toldCount, toldWalk, inRange, Decodable, biased, unbiased, BiasFits, biasedTriple, biasedRow, listedTo, Clippable, atLeast, atMost, clippedAll, beyondAll};
 
 // What a block says of its row, and how many components were clipped in its codes.
 pub struct Header {
@@ -50,9 +63,11 @@ enum Counted {
     Refused(Refusal),
 }
 
-const LAST_ROW: u16 = 4319;
+// Rows are numbered from 0.
+const LAST_ROW: u16 = MOST_ROWS - 1;
 
-const MOST_SAMPLES: u16 = 7680;
+// Added to a component while it waits in the lent slice to be clipped, so that a u16 holds it also below 0.
+const BIAS: u16 = 1 << 14;
 
 // Reads a block's codes into the front of a slice. Refused: in the walk 8, 1, 10, then 8, 9, 8 at each section; then 11, 6, 5.
 pub fn read_block(bytes: &[u8], codes: &mut [u16]) -> BlockRead
@@ -63,16 +78,18 @@ pub fn read_block(bytes: &[u8], codes: &mut [u16]) -> BlockRead
         Found::Block(b) => {
             let system = b.system;
             let samples = b.samples;
-            if !all_nominal(system, bytes, samples) {
+            let nominal = all_nominal(system, bytes, samples);
+            let room = 3 * samples as usize <= codes.len();
+            if !nominal {
                 return BlockRead::Refused(Refusal::Code);
             }
-            if codes.len() < 3 * samples as usize {
+            if !room {
                 return BlockRead::Refused(Refusal::Output);
             }
             let clipped = decode(system, bytes, codes, samples as usize);
             BlockRead::Row(Header {
                 system,
-                row: field_at(bytes, 1),
+                row: field_at(bytes, ROW_NUMBER),
                 samples,
                 clipped,
             })
@@ -85,12 +102,12 @@ pub fn read_block(bytes: &[u8], codes: &mut [u16]) -> BlockRead
 fn walk(bytes: &[u8]) -> Found
     ensures { λ r. ⌜ toldWalk r ≡ walk (now (bytes .entry)) ⌝ }
 {
-    if bytes.len() < 3 {
+    if bytes.len() < LUMA_COUNT {
         return Found::Refused(Refusal::BlockEnd);
     }
-    match System::from_number(bytes[0] as u32) {
+    match System::from_number(bytes[SYSTEM] as u32) {
         Named::Known(system) => {
-            if LAST_ROW < field_at(bytes, 1) {
+            if LAST_ROW < field_at(bytes, ROW_NUMBER) {
                 return Found::Refused(Refusal::RowNumber);
             }
             match sections(bytes) {
@@ -110,14 +127,14 @@ fn sections(bytes: &[u8]) -> Counted
         low: 1,
         high: MOST_SAMPLES,
     };
-    match section_at(bytes, 3, any) {
+    match section_at(bytes, LUMA_COUNT, any) {
         Counted::Count(w) => {
             let n = w as usize;
             let same = Range { low: w, high: w };
-            match section_at(bytes, 5 + 2 * n, same) {
-                Counted::Count(_) => match section_at(bytes, 7 + 4 * n, same) {
+            match section_at(bytes, cb_count(n), same) {
+                Counted::Count(_) => match section_at(bytes, cr_count(n), same) {
                     Counted::Count(_) => {
-                        if bytes.len() != 9 + 6 * n {
+                        if bytes.len() != size(n) {
                             return Counted::Refused(Refusal::BytesAfter);
                         }
                         Counted::Count(w)
@@ -140,10 +157,12 @@ fn section_at(bytes: &[u8], at: usize, counts: Range) -> Counted
         return Counted::Refused(Refusal::BlockEnd);
     }
     let w = field_at(bytes, at);
-    if !counts.holds(w) {
+    let counted = counts.holds(w);
+    let whole = at + 2 + 2 * w as usize <= bytes.len();
+    if !counted {
         return Counted::Refused(Refusal::Count);
     }
-    if bytes.len() < at + 2 + 2 * w as usize {
+    if !whole {
         return Counted::Refused(Refusal::BlockEnd);
     }
     Counted::Count(w)
@@ -161,14 +180,14 @@ fn field_at(bytes: &[u8], at: usize) -> u16
 
 // Whether the words of all three sections are nominal.
 fn all_nominal(system: System, bytes: &[u8], samples: u16) -> bool
-    requires { ⌜ (9 + 6 * samples ≤ length (now bytes)) × (samples ≤ 7680) ⌝ }
+    requires { ⌜ (size samples ≤ length (now bytes)) × (samples ≤ 7680) ⌝ }
     ensures { λ r. ⌜ r ≡ nominalTo system (sampleAt (now (bytes .entry)) samples) samples ⌝ }
 {
     let n = samples as usize;
     let range = system.nominal_difference();
-    let y = outside(bytes, 5, n, system.nominal());
-    let cb = outside(bytes, 7 + 2 * n, n, range);
-    let cr = outside(bytes, 9 + 4 * n, n, range);
+    let y = outside(bytes, luma_word(0), n, system.nominal());
+    let cb = outside(bytes, cb_word(n, 0), n, range);
+    let cr = outside(bytes, cr_word(n, 0), n, range);
     y + cb + cr == 0
 }
 
@@ -195,46 +214,53 @@ fn decode(system: System, bytes: &[u8], codes: &mut [u16], samples: usize) -> u3
     ensures { λ r. ⌜ r ≡ clippedTo (rowOf system (now (bytes .entry)) samples) samples ⌝ }
     ensures { λ r. ⌜ now (codes .exit) ≡ codesTo (rowOf system (now (bytes .entry)) samples) samples ++ drop (3 * samples) (now (codes .entry)) ⌝ }
 {
-    raise_all(system.matrix(), system.scale(), bytes, codes, samples);
+    put_unclipped(system.matrix(), system, bytes, codes, samples);
     clip_all(system.nominal(), codes, 3 * samples) as u32
 }
 
 // The samples' R, G and B before they are clipped.
-fn raise_all(x: Matrix, s: u16, bytes: &[u8], codes: &mut [u16], samples: usize)
-    requires { ⌜ Decodable s (now bytes) samples (length (now codes)) ⌝ }
-    ensures { λ r. ⌜ now (codes .exit) ≡ listedTo (raisedRow x s (sampleAt (now (bytes .entry)) samples)) samples ++ drop (3 * samples) (now (codes .entry)) ⌝ }
+fn put_unclipped(x: Matrix, y: System, bytes: &[u8], codes: &mut [u16], samples: usize)
+    requires { ⌜ Decodable (scale y) (now bytes) samples (length (now codes)) ⌝ }
+    ensures { λ r. ⌜ now (codes .exit) ≡ listedTo (biasedRow x (scale y) (sampleAt (now (bytes .entry)) samples)) samples ++ drop (3 * samples) (now (codes .entry)) ⌝ }
 {
     let mut i: usize = 0;
     while i < samples {
         let words = words_at(bytes, samples, i);
-        store(codes, i, raised_in(x, s, words));
+        put_triple(codes, i, unclipped_by(x, y, words));
         i += 1;
     }
 }
 
 // The words of sample i.
 fn words_at(bytes: &[u8], samples: usize, i: usize) -> Words
-    requires { ⌜ (9 + 6 * samples ≤ length (now bytes)) × (samples ≤ 7680) × (i < samples) ⌝ }
+    requires { ⌜ (size samples ≤ length (now bytes)) × (samples ≤ 7680) × (i < samples) ⌝ }
     ensures { λ r. ⌜ r ≡ sampleAt (now (bytes .entry)) samples i ⌝ }
 {
     Words {
-        y: field_at(bytes, 5 + 2 * i),
-        cb: field_at(bytes, 7 + 2 * samples + 2 * i),
-        cr: field_at(bytes, 9 + 4 * samples + 2 * i),
+        y: field_at(bytes, luma_word(i)),
+        cb: field_at(bytes, cb_word(samples, i)),
+        cr: field_at(bytes, cr_word(samples, i)),
     }
 }
 
-// Stores R, G and B of sample i.
-fn store(codes: &mut [u16], i: usize, c: Codes)
-    requires { ⌜ (3 * i + 3 ≤ length (now codes)) × (i ≤ 7680) ⌝ }
-    ensures { λ r. ⌜ now (codes .exit) ≡ sets (now (codes .entry)) (3 * i) (listed c) ⌝ }
+// R, G and B of sample i.
+fn put_triple(codes: &mut [u16], i: usize, v: Unclipped)
+    requires { ⌜ (3 * i + 3 ≤ length (now codes)) × (i ≤ 7680) × BiasFits v ⌝ }
+    ensures { λ r. ⌜ now (codes .exit) ≡ sets (now (codes .entry)) (3 * i) (listed (biasedTriple v)) ⌝ }
 {
-    codes[3 * i] = c.r;
-    codes[3 * i + 1] = c.g;
-    codes[3 * i + 2] = c.b;
+    codes[3 * i] = biased(v.r);
+    codes[3 * i + 1] = biased(v.g);
+    codes[3 * i + 2] = biased(v.b);
 }
 
-// Clips the first components of a slice, which were raised, and counts those beyond the range. A loop of its own, so that
+fn biased(v: i64) -> u16
+    requires { ⌜ natAbs v ≤ 2 ^ 14 ⌝ }
+    ensures { λ r. ⌜ r ≡ biased v ⌝ }
+{
+    (v + BIAS as i64) as u16
+}
+
+// Clips the first components of a slice, which are biased, and counts those beyond the range. A loop of its own, so that
 // several are clipped at a time.
 fn clip_all(range: Range, codes: &mut [u16], count: usize) -> u16
     requires { ⌜ Clippable range × (count ≤ length (now codes)) × (count ≤ 3 * 7680) ⌝ }
@@ -250,4 +276,32 @@ fn clip_all(range: Range, codes: &mut [u16], count: usize) -> u16
         i += 1;
     }
     bad
+}
+
+// The nearer end of the range where a biased component is beyond it.
+fn clip(n: Range, v: u16) -> u16
+    requires { ⌜ Clippable n ⌝ }
+    ensures { λ r. ⌜ r ≡ clipped n (unbiased v) ⌝ }
+{
+    at_most(at_least(v, n.low + BIAS), n.high + BIAS) - BIAS
+}
+
+fn at_least(v: u16, low: u16) -> u16
+    ensures { λ r. ⌜ r ≡ atLeast v low ⌝ }
+{
+    if v < low { low } else { v }
+}
+
+fn at_most(v: u16, high: u16) -> u16
+    ensures { λ r. ⌜ r ≡ atMost v high ⌝ }
+{
+    if high < v { high } else { v }
+}
+
+// 1 where a biased component is beyond the range. Both tests are made, so that a loop can take several components at a time.
+fn beyond(n: Range, v: u16) -> u16
+    requires { ⌜ Clippable n ⌝ }
+    ensures { λ r. ⌜ (r ≡ beyond n (unbiased v)) × (r ≤ 1) ⌝ }
+{
+    (v < n.low + BIAS) as u16 + (n.high + BIAS < v) as u16
 }

@@ -7,7 +7,7 @@ use native.Mathlib.Nat.{le-refl, le-suc, le-trans, lt-of-le-of-lt, mul-le-mul-le
 use native.Mathlib.Omega.{arith}
 use lib.Dec.{ltb, lt→ltb}
 use lib.IntN.{ℤ, pos, negsuc, negℤ, natAbs, subℕ, _+ℤ_, _-ℤ_, _*ℤ_}
-use lib.Signed.{mag, _<ℤ_}
+use lib.Signed.{mag, shrZ, mag-shr, _<ℤ_}
 use mir.Syntax.{w64}
 use mir.Val.{SFits, toZ, ofZ}
 use mir.ValLaws.{toZ-ofZ}
@@ -52,6 +52,9 @@ fits-i64 z h = record { sfits = lt-of-le-of-lt (mag-le z) h }
 
 pub reads-back : (z : ℤ) → natAbs z < 2 ^ 63 → toZ w64 (ofZ w64 z) ≡ z
 reads-back z h = toZ-ofZ w64 z (fits-i64 z h)
+
+pub shifted-reads-back : (z : ℤ) (m : ℕ) → natAbs z < 2 ^ 63 → toZ w64 (ofZ w64 (shrZ z m)) ≡ shrZ z m
+shifted-reads-back z m h = toZ-ofZ w64 (shrZ z m) record { sfits = lt-of-le-of-lt (le-trans (mag-shr z m) (mag-le z)) h }
 
 pub positive : (z : ℤ) → pos 0 <ℤ z → (z ≡ pos (natAbs z)) × (0 < natAbs z)
 positive (pos zero) h = absurd (h .lt)

@@ -3,13 +3,34 @@
 use mathlib.Core.Path.{_≡_, sym, ap, _∙_, subst}
 use mathlib.Core.Logic.{_⊎_, inl, inr}
 use Prim.Native.Nat.{ℕ, suc, _+_, _*_, _-_, _/_, _≤_, _<_}
-use native.Mathlib.Nat.{div-mul-le-self, lt-div-mul-add, mul-left-comm, suc-mul, zero-mul}
+use native.Mathlib.Nat.{div-mul-le-self, lt-div-mul-add, div-eq-of-lt-le, lt-of-mul-lt-mul-right, mul-left-comm, add-mul, suc-mul, zero-mul}
 use native.Mathlib.Omega.{arith}
 use lib.IntN.{ℤ, pos, negsuc, subℕ, _+ℤ_, _-ℤ_, _*ℤ_, *ℤ-comm}
 use lib.Signed.{shrZ, _≤ℤ_}
 use Rattle.exact.specs.Signed.{Ratio, rounded}
 use Rattle.exact.proofs.Order.{below-or-not}
 use Rattle.exact.proofs.Difference.{sub-pos, sub-neg, pos-sub, neg-sub, sub-add, sub-minus, sub-mul, sub-le}
+
+-- (a - b)/k rounded down is u - v where k times that is not above a - b, and k more is
+pub floor-is : (a b u v k : ℕ) → 0 < k → u * k + b ≤ a + v * k → a + v * k < u * k + b + k → shrZ (subℕ a b) k ≡ subℕ u v
+floor-is a b u v k K l h = by-order (below-or-not a b)
+  where
+    by-order : (a < b) ⊎ (b ≤ a) → shrZ (subℕ a b) k ≡ subℕ u v
+    by-order (inl m) =
+        let less : u < v = lt-of-mul-lt-mul-right k (omega arith) in
+        let n = v - suc u in
+        let e : v ≡ n + suc u = omega arith in
+        let f : v * k ≡ n * k + suc u * k = ap (λ (x : ℕ). x * k) e ∙ add-mul n (suc u) k in
+        let g : suc u * k ≡ u * k + k = suc-mul u k in
+        let i : (n + 1) * k ≡ n * k + 1 * k = add-mul n 1 k in
+        ap (λ (z : ℤ). shrZ z k) (sub-neg a b m) ∙ ap negsuc (div-eq-of-lt-le k (omega arith) (omega arith)) ∙ sym (sub-neg u v less)
+    by-order (inr m) =
+        let not-more : v < u + 1 = lt-of-mul-lt-mul-right k (omega (arith, add-mul u 1 k)) in
+        let n = u - v in
+        let e : u ≡ n + v = omega arith in
+        let f : u * k ≡ n * k + v * k = ap (λ (x : ℕ). x * k) e ∙ add-mul n v k in
+        let i : (n + 1) * k ≡ n * k + 1 * k = add-mul n 1 k in
+        ap (λ (z : ℤ). shrZ z k) (sub-pos a b m) ∙ ap pos (div-eq-of-lt-le k (omega arith) (omega arith)) ∙ sym (sub-pos u v (omega arith))
 
 -- v is INT of (p - n)/d, in naturals: v = up - down, and 2vd ≤ 2(p - n) + d < 2vd + 2d
 pub record Rounds (p n d : ℕ) (v : ℤ) : Type 0 where

@@ -7,8 +7,9 @@ use Prim.Native.Nat.{ℕ, _+_, _*_, _-_, _≤_, _<_}
 use native.Mathlib.Nat.{le-refl}
 use native.Mathlib.Omega.{arith}
 use lib.Dec.{T, ltb}
-use lib.IntN.{ℤ, pos, negsuc, subℕ}
-use lib.Signed.{ltZ}
+use lib.IntN.{ℤ, pos, negsuc, natAbs, subℕ}
+use lib.Signed.{ltZ, nonNeg}
+use mir.Val.{boolByte}
 use borrow.Author.Tests.{ltb-true, ltb-false, le-ltb}
 use Rattle.exact.specs.Signed.{rounded}
 use Rattle.exact.proofs.Order.{below-or-not}
@@ -22,6 +23,34 @@ use Rattle.matrix.specs.Rows.{NominalCodes}
 inside : (v : ℤ) (low high : ℕ) → ltZ v (pos low) ≡ false → ltZ (pos high) v ≡ false → (low ≤ whole v) × (whole v ≤ high)
 inside (pos n) low high l h = (ltb-false n low l, ltb-false high n h)
 inside (negsuc n) low high l h = absurd (subst T l tt)
+
+-- ---- clipped and counted by the two tests
+pub clipped-by : (n : Range) (v : ℤ) (l h : Bool) → ltZ v (pos (n .low)) ≡ l → ltZ (pos (n .high)) v ≡ h
+    → elim l [ true ↦ n .low | false ↦ elim h [ true ↦ n .high | false ↦ whole v ] ] ≡ clipped n v
+clipped-by n v l h p q = sym (λ i. elim (p i) [ true ↦ n .low | false ↦ elim (q i) [ true ↦ n .high | false ↦ whole v ] ])
+
+-- a component that is in the range is its own code
+pub natural-inside : (n : Range) (v : ℤ) → ltZ v (pos (n .low)) ≡ false → ltZ (pos (n .high)) v ≡ false → T (nonNeg v) × (natAbs v ≤ n .high) × (natAbs v ≡ clipped n v)
+natural-inside n (pos a) l h = (tt, ltb-false (n .high) a h, clipped-by n (pos a) false false l h)
+natural-inside n (negsuc a) l h = absurd (subst T l tt)
+
+beyond-by : (n : Range) (v : ℤ) (l h : Bool) → ltZ v (pos (n .low)) ≡ l → ltZ (pos (n .high)) v ≡ h → elim l [ true ↦ 1 | false ↦ elim h [ true ↦ 1 | false ↦ 0 ] ] ≡ beyond n v
+beyond-by n v l h p q = sym (λ i. elim (p i) [ true ↦ 1 | false ↦ elim (q i) [ true ↦ 1 | false ↦ 0 ] ])
+
+not-both : (n : Range) (v : ℤ) → n .low ≤ n .high → ltZ v (pos (n .low)) ≡ true → ltZ (pos (n .high)) v ≡ true → ⊥
+not-both n (pos a) o l h = omega (arith, ltb-true a (n .low) l, ltb-true (n .high) a h)
+not-both n (negsuc a) o l h = subst T (sym h) tt
+
+pub counted : (n : Range) (v : ℤ) → n .low ≤ n .high →
+    let k = boolByte (ltZ v (pos (n .low))) + boolByte (ltZ (pos (n .high)) v) in
+    (k ≡ beyond n v) × (k ≤ 1)
+counted n v o = go (ltZ v (pos (n .low))) (ltZ (pos (n .high)) v) refl refl
+  where
+    go : (l h : Bool) → ltZ v (pos (n .low)) ≡ l → ltZ (pos (n .high)) v ≡ h → (boolByte l + boolByte h ≡ beyond n v) × (boolByte l + boolByte h ≤ 1)
+    go true true p q = absurd (not-both n v o p q)
+    go true false p q = (beyond-by n v true false p q, omega arith)
+    go false true p q = (beyond-by n v false true p q, omega arith)
+    go false false p q = (beyond-by n v false false p q, omega arith)
 
 beyond-at-most-one : (n : Range) (v : ℤ) → beyond n v ≤ 1
 beyond-at-most-one n v = by-tests (ltZ v (pos (n .low))) (ltZ (pos (n .high)) v)

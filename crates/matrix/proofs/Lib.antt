@@ -1,11 +1,11 @@
+pub mod Products
 pub mod Weights
 pub mod Clipping
-pub mod Parts
-pub mod WayBack
-pub mod WayThere
+pub mod FixedPoint
+pub mod EncodingRows
+pub mod DecodingRows
 pub mod Fractions
 pub mod Nominal
 pub mod Tested
-pub mod Raised
 pub mod Return
 pub mod ColourDifference

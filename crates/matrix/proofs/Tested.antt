@@ -3,6 +3,7 @@
 use mathlib.Core.Path.{_≡_}
 use mathlib.Core.Bool.{true}
 use Prim.Native.Nat.{ℕ, _≤_}
+use native.Mathlib.Omega.{arith}
 use lib.Dec.{leb, leb→le}
 use lib.Ieee.Fits.{and-l, and-r}
 use Rattle.exact.proofs.Boolean.{holds, each-of-three}
@@ -13,7 +14,7 @@ use Rattle.systems.specs.Systems.{scale, nominal, nominalDifference, within, al
 use Rattle.systems.proofs.Ranges.{all-nominal}
 use Rattle.matrix.specs.declared.Words.{Words}
 use Rattle.matrix.specs.Triples.{wordsWithin}
-use Rattle.matrix.specs.Rows.{NominalCodes, NominalWords}
+use Rattle.matrix.specs.Rows.{NominalCodes, NominalWords, TwelveBitWords}
 
 in-range : (n : Range) (d : ℕ) → within n d ≡ true → (n .low ≤ d) × (d ≤ n .high)
 in-range n d e =
@@ -34,3 +35,6 @@ nominal-words y w e =
     let b = in-range (nominalDifference y) (w .cb) (t .1) in
     let r = in-range (nominalDifference y) (w .cr) (t .2) in
     record { y-low = n .0; y-high = n .1; cb-low = b .0; cb-high = b .1; cr-low = r .0; cr-high = r .1 }
+
+pub twelve-bits : (s : ℕ) (w : Words) → s ≤ 16 → NominalWords s w → TwelveBitWords w
+twelve-bits s w S n = record { y-high = omega (arith, n .y-high); cb-high = omega (arith, n .cb-high); cr-high = omega (arith, n .cr-high) }

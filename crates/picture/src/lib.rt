@@ -1,6 +1,8 @@
 // A picture taken row by row (document 01, 'Picture'). proofs/Demand.antt has the theorem over every list of these calls
 // (demand 3), and docs/THEOREM.md explains it.
 use row::write_row;
+use systems::MOST_ROWS;
+use systems::MOST_SAMPLES;
 use systems::Named;
 use systems::Refusal;
 use systems::System;
@@ -34,10 +36,6 @@ pub enum Change {
     To(Picture),
     Refused(Refusal),
 }
-
-const MOST_SAMPLES: u32 = 7680;
-
-const MOST_ROWS: u32 = 4320;
 
 impl Picture {
     pub fn new() -> Picture
@@ -193,8 +191,8 @@ fn next_row(o: Opened, lights: &[u16], out: &mut [u8]) -> Change
 }
 
 // From 1 to the most that there may be.
-fn is_size(size: u32, most: u32) -> bool
+fn is_size(size: u32, most: u16) -> bool
     ensures { λ r. ⌜ r ≡ (leb 1 size && leb size most) ⌝ }
 {
-    1 <= size && size <= most
+    1 <= size && size <= most as u32
 }

@@ -9,7 +9,6 @@ use Rattle.systems.specs.declared.Codes.{Codes}
 use Rattle.systems.specs.declared.Matrix.{Matrix}
 use Rattle.systems.specs.declared.System.{System}
 use Rattle.systems.specs.Systems.{matrix, scale}
-use Rattle.systems.proofs.Scales.{scale-range}
 use Rattle.curve.proofs.Lights.{code-low, code-high}
 use Rattle.matrix.specs.declared.Words.{Words}
 use Rattle.matrix.specs.Triples.{wordsAt}
@@ -18,19 +17,15 @@ use Rattle.row.specs.Row.{sampleCodes, sampleWords}
 use Rattle.row.specs.Stores.{put, headed, worded, stored}
 
 -- the codes of a sample's lights are nominal
-pub sample-nominal : (y : System) (lights : List ℕ) (i : ℕ) {s : ℕ} {c : Codes} → s ≡ scale y → c ≡ sampleCodes y lights i
-    → (s ≤ 16) × NominalCodes s c
-sample-nominal y lights i same-scale same-codes =
-    rw (same-scale, same-codes) (
-      scale-range y .1,
-      record { r-low = code-low y _; r-high = code-high y _; g-low = code-low y _; g-high = code-high y _; b-low = code-low y _; b-high = code-high y _ },
-    )
+pub sample-nominal : (y : System) (lights : List ℕ) (i : ℕ) {c : Codes} → c ≡ sampleCodes y lights i → NominalCodes (scale y) c
+sample-nominal y lights i same-codes =
+    rw same-codes record { r-low = code-low y _; r-high = code-high y _; g-low = code-low y _; g-high = code-high y _; b-low = code-low y _; b-high = code-high y _ }
 
 -- the words of a sample's codes by the system's matrix are the sample's
-pub sample-words : (y : System) (lights : List ℕ) (i : ℕ) {s : ℕ} {c : Codes} {x : Matrix} {r : Words}
-    → matrix y ≡ x → s ≡ scale y → c ≡ sampleCodes y lights i → r ≡ wordsAt x s c → r ≡ sampleWords y lights i
+pub sample-words : (y : System) (lights : List ℕ) (i : ℕ) {c : Codes} {x : Matrix} {r : Words}
+    → matrix y ≡ x → c ≡ sampleCodes y lights i → r ≡ wordsAt x (scale y) c → r ≡ sampleWords y lights i
 unfolding sampleWords
-sample-words y lights i same-matrix same-scale same-codes made = cc
+sample-words y lights i same-matrix same-codes made = cc
 
 -- the stores of a head, one after another
 pub head-put : (n row w : ℕ) (d d₁ d₂ d₃ d₄ d₅ : List ℕ)

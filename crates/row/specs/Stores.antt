@@ -1,14 +1,16 @@
--- The stores that make a row block in a buffer: the head, then the words of each sample into the three sections.
+-- Inner definitions, which the contracts of the crate's own functions cite: the stores that make a row block in a buffer, the
+-- head, then the words of each sample into the three sections. Nothing here has to be believed.
 -- Definitions only.
 use mathlib.Core.Path.{_≡_}
 use mathlib.Core.List.{List}
 use Prim.Native.Nat.{ℕ, zero, suc, _+_, _*_, _/_, _%_, _≤_}
 use lib.ListN.{length, set}
 use Rattle.matrix.specs.declared.Words.{Words}
+use Rattle.block.specs.Block.{size}
 
 -- the lights of w samples, and room for their block
 abbrev pub RowFits : ℕ → List ℕ → List ℕ → Type 0
-RowFits w lights out = (length lights ≡ 3 * w) × (9 + 6 * w ≤ length out)
+RowFits w lights out = (length lights ≡ 3 * w) × (size w ≤ length out)
 
 -- d with a field of 2 bytes at a place, low byte first
 abbrev pub put : ℕ → ℕ → List ℕ → List ℕ

@@ -1,4 +1,12 @@
 // The row block of a row of lights (document 01, 'Picture'), made in one pass: each light is looked up once.
+use block::LUMA_COUNT;
+use block::ROW_NUMBER;
+use block::SYSTEM;
+use block::cb_count;
+use block::cb_word;
+use block::cr_count;
+use block::cr_word;
+use block::luma_word;
 use curve::code_in;
 use matrix::Words;
 use matrix::words_709;
@@ -12,16 +20,17 @@ ghost use mathlib.Core.List.{_++_};
 ghost use Prim.Native.Nat.{_+_, _*_, _<_, _≤_};
 ghost use lib.ListN.{length, drop, set};
 ghost use Rattle.systems.specs.declared.Matrix.the-variants.{Bt709, Bt2020};
-ghost use Rattle.systems.specs.Systems.{number, matrix, scale};
+ghost use Rattle.systems.specs.Systems.{number, matrix};
 ghost use Rattle.curve.specs.Boundaries.{Ready};
 ghost use Rattle.matrix.specs.Rows.{triple};
+ghost use Rattle.block.specs.Block.{size};
 ghost use Rattle.row.specs.Row.{sampleCodes, sampleWords, rowBlock};
 ghost use Rattle.row.specs.Stores.{RowFits, put, headed, worded, stored};
 
 // One row block to the front of `out`; later bytes stay. The system's table is made once for the row.
 pub fn write_row(y: System, row: u16, width: u16, lights: &[u16], out: &mut [u8])
-    requires { ⌜ (length (now lights) ≡ 3 * width) × (9 + 6 * width ≤ length (now out)) ⌝ }
-    ensures { λ r. ⌜ now (out .exit) ≡ rowBlock y row width (now (lights .entry)) ++ drop (9 + 6 * width) (now (out .entry)) ⌝ }
+    requires { ⌜ (length (now lights) ≡ 3 * width) × (size width ≤ length (now out)) ⌝ }
+    ensures { λ r. ⌜ now (out .exit) ≡ rowBlock y row width (now (lights .entry)) ++ drop (size width) (now (out .entry)) ⌝ }
 {
     put_head(y, row, width, out);
     match y {
@@ -61,11 +70,10 @@ fn row_709<'a>(
     requires { ⌜ (matrix y ≡ Bt709) × Ready y shift (now boundaries) (now index) × RowFits width (now lights) (now out) ⌝ }
     ensures { λ r. ⌜ now (out .exit) ≡ stored (sampleWords y (now (lights .entry))) width (now (out .entry)) width ⌝ }
 {
-    let s = y.scale();
     let n = width as usize;
     let mut i: usize = 0;
     while i < n {
-        put_sample_709(y, s, boundaries, index, shift, n, i, lights, out);
+        put_sample_709(y, boundaries, index, shift, n, i, lights, out);
         i += 1;
     }
 }
@@ -83,11 +91,10 @@ fn row_2020<'a>(
     requires { ⌜ (matrix y ≡ Bt2020) × Ready y shift (now boundaries) (now index) × RowFits width (now lights) (now out) ⌝ }
     ensures { λ r. ⌜ now (out .exit) ≡ stored (sampleWords y (now (lights .entry))) width (now (out .entry)) width ⌝ }
 {
-    let s = y.scale();
     let n = width as usize;
     let mut i: usize = 0;
     while i < n {
-        put_sample_2020(y, s, boundaries, index, shift, n, i, lights, out);
+        put_sample_2020(y, boundaries, index, shift, n, i, lights, out);
         i += 1;
     }
 }
@@ -95,7 +102,6 @@ fn row_2020<'a>(
 // Sample i by BT.709's matrix.
 fn put_sample_709<'a>(
     y: System,
-    s: u16,
     boundaries: &'a [u16],
     index: &'a [u16],
     shift: u32,
@@ -104,17 +110,16 @@ fn put_sample_709<'a>(
     lights: &[u16],
     out: &mut [u8],
 )
-    requires { ⌜ (matrix y ≡ Bt709) × (s ≡ scale y) × Ready y shift (now boundaries) (now index) × (i < width) × (width < 65536) × RowFits width (now lights) (now out) ⌝ }
+    requires { ⌜ (matrix y ≡ Bt709) × Ready y shift (now boundaries) (now index) × (i < width) × (width < 65536) × RowFits width (now lights) (now out) ⌝ }
     ensures { λ r. ⌜ now (out .exit) ≡ worded width i (sampleWords y (now (lights .entry)) i) (now (out .entry)) ⌝ }
 {
     let c = sample_codes(y, boundaries, index, shift, i, lights);
-    put_words(width, i, words_709(s, c), out);
+    put_words(width, i, words_709(y, c), out);
 }
 
 // Sample i by BT.2020's matrix.
 fn put_sample_2020<'a>(
     y: System,
-    s: u16,
     boundaries: &'a [u16],
     index: &'a [u16],
     shift: u32,
@@ -123,11 +128,11 @@ fn put_sample_2020<'a>(
     lights: &[u16],
     out: &mut [u8],
 )
-    requires { ⌜ (matrix y ≡ Bt2020) × (s ≡ scale y) × Ready y shift (now boundaries) (now index) × (i < width) × (width < 65536) × RowFits width (now lights) (now out) ⌝ }
+    requires { ⌜ (matrix y ≡ Bt2020) × Ready y shift (now boundaries) (now index) × (i < width) × (width < 65536) × RowFits width (now lights) (now out) ⌝ }
     ensures { λ r. ⌜ now (out .exit) ≡ worded width i (sampleWords y (now (lights .entry)) i) (now (out .entry)) ⌝ }
 {
     let c = sample_codes(y, boundaries, index, shift, i, lights);
-    put_words(width, i, words_2020(s, c), out);
+    put_words(width, i, words_2020(y, c), out);
 }
 
 // The codes of sample i's three lights.
@@ -150,25 +155,25 @@ fn sample_codes<'a>(
 
 // The system, the row number and the three counts.
 fn put_head(y: System, row: u16, width: u16, out: &mut [u8])
-    requires { ⌜ 9 + 6 * width ≤ length (now out) ⌝ }
+    requires { ⌜ size width ≤ length (now out) ⌝ }
     ensures { λ r. ⌜ now (out .exit) ≡ headed (number y) row width (now (out .entry)) ⌝ }
 {
     let n = width as usize;
-    put_byte(0, y.number() as u8, out);
-    put_field(1, row, out);
-    put_field(3, width, out);
-    put_field(5 + 2 * n, width, out);
-    put_field(7 + 4 * n, width, out);
+    put_byte(SYSTEM, y.number() as u8, out);
+    put_field(ROW_NUMBER, row, out);
+    put_field(LUMA_COUNT, width, out);
+    put_field(cb_count(n), width, out);
+    put_field(cr_count(n), width, out);
 }
 
 // The words of sample i, one in each section.
 fn put_words(width: usize, i: usize, words: Words, out: &mut [u8])
-    requires { ⌜ (i < width) × (width < 65536) × (9 + 6 * width ≤ length (now out)) ⌝ }
+    requires { ⌜ (i < width) × (width < 65536) × (size width ≤ length (now out)) ⌝ }
     ensures { λ r. ⌜ now (out .exit) ≡ worded width i words (now (out .entry)) ⌝ }
 {
-    put_field(5 + 2 * i, words.y, out);
-    put_field(7 + 2 * width + 2 * i, words.cb, out);
-    put_field(9 + 4 * width + 2 * i, words.cr, out);
+    put_field(luma_word(i), words.y, out);
+    put_field(cb_word(width, i), words.cb, out);
+    put_field(cr_word(width, i), words.cr, out);
 }
 
 // A field of two bytes, low byte first.

@@ -1,4 +1,6 @@
-use mathlib.Core.Path.{sym, _∙_}
+use mathlib.Core.Path.{_≡_, sym, _∙_}
+use Prim.Native.Nat.{_+_, _*_}
+use native.Mathlib.Omega.{arith}
 use denote.Ref.{now}
 use Rattle.block.proofs.Nominal.{none-of-three, nominal-by-sections}
 use borrow.Author.Needs.{needs}
@@ -8,26 +10,23 @@ use Rattle.block.proofs.all_nominal.Tie as tie
 nominal-difference-requires : tie.Need-nominal-difference-requires
 nominal-difference-requires c κs = search needs
 
+luma-word-requires : tie.Need-luma-word-requires
+luma-word-requires c κs = search needs
+
 nominal-requires : tie.Need-nominal-requires
 nominal-requires c κs = search needs
 
 outside-requires : tie.Need-outside-requires
 outside-requires c κs = search needs
 
-mul-outside : tie.Need-mul-outside
-mul-outside c = search needs
-
-add-outside : tie.Need-add-outside
-add-outside c = search needs
+cb-word-requires : tie.Need-cb-word-requires
+cb-word-requires c κs = search needs
 
 outside-requires-2 : tie.Need-outside-requires-2
 outside-requires-2 c κs = search needs
 
-mul-outside-2 : tie.Need-mul-outside-2
-mul-outside-2 c = search needs
-
-add-outside-2 : tie.Need-add-outside-2
-add-outside-2 c = search needs
+cr-word-requires : tie.Need-cr-word-requires
+cr-word-requires c κs = search needs
 
 outside-requires-3 : tie.Need-outside-requires-3
 outside-requires-3 c κs = search needs
@@ -40,23 +39,27 @@ add-result-2 c = search needs
 
 returns : tie.Need-returns
 returns c =
-    let a = c .before .before .before .before .before .before .args in
-    let bs = now (a .bytes) in
-    none-of-three (c .before .before .outside .result) (c .before .outside2 .result) (c .outside3 .result)
-    ∙ rw (c .before .before .outside .ensures .0, c .before .outside2 .ensures .0, c .outside3 .ensures .0, c .before .before .before .nominal .ensures, c .before .before .before .before .nominal-difference .ensures) (sym (nominal-by-sections (a .system) bs (a .samples) (a .samples)))
+    let cb = c .before .before in
+    let luma = cb .before .before in
+    let a = luma .before .before .before .before .before .args in
+    let n = a .samples in
+    let in-y : luma .before .before .luma-word .result ≡ 5 = luma .before .before .luma-word .ensures in
+    let in-cb : cb .before .cb-word .result ≡ 7 + 2 * n = omega (arith, cb .before .cb-word .ensures) in
+    let in-cr : c .before .cr-word .result ≡ 9 + 4 * n = omega (arith, c .before .cr-word .ensures) in
+    none-of-three (luma .outside .result) (cb .outside2 .result) (c .outside3 .result)
+    ∙ rw (luma .outside .ensures .0, cb .outside2 .ensures .0, c .outside3 .ensures .0, in-y, in-cb, in-cr, luma .before .nominal .ensures, luma .before .before .before .nominal-difference .ensures) (sym (nominal-by-sections (a .system) (now (a .bytes)) n n))
 
 pub all-nominal-spec : {M : Type 1} → statement M
 all-nominal-spec =
     tie.close
     (tie.spec
     nominal-difference-requires
+    luma-word-requires
     nominal-requires
     outside-requires
-    mul-outside
-    add-outside
+    cb-word-requires
     outside-requires-2
-    mul-outside-2
-    add-outside-2
+    cr-word-requires
     outside-requires-3
     add-result
     add-result-2

@@ -1,7 +1,7 @@
 use mathlib.Core.Path.{_≡_, sym, ap, _∙_}
 use native.Mathlib.Omega.{arith}
 use denote.Ref.{now}
-use borrow.Author.Tests.{not-true, not-false}
+use borrow.Author.Tests.{leb-true, leb-false, not-true, not-false}
 use Rattle.exact.specs.Outcome.{accepted}
 use Rattle.block.specs.Read.{walk}
 use Rattle.block.specs.Steps.{toldWalk}
@@ -24,27 +24,27 @@ enum-known-b c = search needs
 all-nominal-requires : tie.Need-all-nominal-requires
 all-nominal-requires c κs = let shape = walk-accepted _ _ (walked (c .before)) .0 in (omega (arith, shape .size), shape .most)
 
+cast-room : tie.Need-cast-room
+cast-room c = search needs
+
+mul-room : tie.Need-mul-room
+mul-room c = search needs
+
 returns : tie.Need-returns
 returns c =
     let e = word-refused _ _ _ (walked (c .before .before .before)) (sym (c .before .all-nominal .ensures) ∙ not-true _ (c .if1 .taken)) in
     (sym e, slice-stays _ _ 6 e)
 
-cast-if2 : tie.Need-cast-if2
-cast-if2 c = search needs
-
-mul-if2 : tie.Need-mul-if2
-mul-if2 c = search needs
-
 returns-2 : tie.Need-returns-2
 returns-2 c =
-    let e = room-refused _ _ _ (walked (c .before .before .before .before)) (sym (c .before .before .all-nominal .ensures) ∙ not-false _ (c .before .if1 .left)) (c .if2 .taken) in
+    let e = room-refused _ _ _ (walked (c .before .before .before .before)) (sym (c .before .before .all-nominal .ensures) ∙ not-false _ (c .before .if1 .left)) (leb-false _ _ (not-true _ (c .if2 .taken))) in
     (sym e, slice-stays _ _ 5 e)
 
 cast-decode : tie.Need-cast-decode
 cast-decode c = search needs
 
 decode-requires : tie.Need-decode-requires
-decode-requires c κs = decodable _ _ _ (walked (c .before .before .before .before .before)) (sym (c .before .before .before .all-nominal .ensures) ∙ not-false _ (c .before .before .if1 .left)) (c .before .if2 .left)
+decode-requires c κs = decodable _ _ _ (walked (c .before .before .before .before .before)) (sym (c .before .before .before .all-nominal .ensures) ∙ not-false _ (c .before .before .if1 .left)) (leb-true _ _ (not-false _ (c .before .if2 .left)))
 
 field-at-requires : tie.Need-field-at-requires
 field-at-requires c κs = omega (arith, walk-accepted _ _ (walked (c .before .before .before .before .before .before .before .before)) .0 .size)
@@ -57,7 +57,7 @@ same-length c = search needs
 
 returns-3 : tie.Need-returns-3
 returns-3 c =
-    let e = row-accepted _ _ _ (walked (c .before .before .before .before .before .before .before .before .before)) (sym (c .before .before .before .before .before .before .before .all-nominal .ensures) ∙ not-false _ (c .before .before .before .before .before .before .if1 .left)) (c .before .before .before .before .before .if2 .left) in
+    let e = row-accepted _ _ _ (walked (c .before .before .before .before .before .before .before .before .before)) (sym (c .before .before .before .before .before .before .before .all-nominal .ensures) ∙ not-false _ (c .before .before .before .before .before .before .if1 .left)) (leb-true _ _ (not-false _ (c .before .before .before .before .before .if2 .left))) in
     (rw (c .field-at .ensures, c .before .before .before .decode .ensures .0) (sym e), c .before .before .before .decode .ensures .1 ∙ codes-in-front _ _ _ e)
 
 returns-4 : tie.Need-returns-4
@@ -72,9 +72,9 @@ read-block-spec =
     walk-requires
     enum-known-b
     all-nominal-requires
+    cast-room
+    mul-room
     returns
-    cast-if2
-    mul-if2
     returns-2
     cast-decode
     decode-requires

@@ -1,8 +1,17 @@
 use mathlib.Core.Path.{sym, _∙_}
+use mathlib.Core.Bool.{Bool}
+use Prim.Native.Nat.{_+_, _*_}
+use lib.Dec.{leb}
+use lib.ListN.{length}
+use denote.Ref.{now}
 use borrow.Author.Tests.{le-leb, lt-leb, not-true, not-false}
 use borrow.Author.Needs.{needs}
 use Rattle.block.proofs.section_at.Statement.{statement}
 use Rattle.block.proofs.section_at.Tie as tie
+
+-- the words are there
+abbrev fits : tie.After-holds → Bool
+fits c = let a = c .before .before .before .before .args in leb (a .at + 2 + 2 * c .before .field-at .result) (length (now (a .bytes)))
 
 add-if1 : tie.Need-add-if1
 add-if1 c = search needs
@@ -16,26 +25,26 @@ field-at-requires c κs = search needs
 holds-requires : tie.Need-holds-requires
 holds-requires c κs = search needs
 
+add-whole : tie.Need-add-whole
+add-whole c = search needs
+
+cast-whole : tie.Need-cast-whole
+cast-whole c = search needs
+
+mul-whole : tie.Need-mul-whole
+mul-whole c = search needs
+
+add-whole-2 : tie.Need-add-whole-2
+add-whole-2 c = search needs
+
 returns-2 : tie.Need-returns-2
 returns-2 c = rw (le-leb _ _ (c .before .before .before .if1 .left), sym (c .before .before .field-at .ensures), sym (c .before .holds .ensures) ∙ not-true _ (c .if2 .taken))
 
-add-if3 : tie.Need-add-if3
-add-if3 c = search needs
-
-cast-if3 : tie.Need-cast-if3
-cast-if3 c = search needs
-
-mul-if3 : tie.Need-mul-if3
-mul-if3 c = search needs
-
-add-if3-2 : tie.Need-add-if3-2
-add-if3-2 c = search needs
-
 returns-3 : tie.Need-returns-3
-returns-3 c = rw (le-leb _ _ (c .before .before .before .before .if1 .left), sym (c .before .before .before .field-at .ensures), sym (c .before .before .holds .ensures) ∙ not-false _ (c .before .if2 .left), lt-leb _ _ (c .if3 .taken))
+returns-3 c = rw (le-leb _ _ (c .before .before .before .before .if1 .left), sym (c .before .before .before .field-at .ensures), sym (c .before .before .holds .ensures) ∙ not-false _ (c .before .if2 .left), not-true (fits (c .before .before)) (c .if3 .taken))
 
 returns-4 : tie.Need-returns-4
-returns-4 c = rw (le-leb _ _ (c .before .before .before .before .if1 .left), sym (c .before .before .before .field-at .ensures), sym (c .before .before .holds .ensures) ∙ not-false _ (c .before .if2 .left), le-leb _ _ (c .if3 .left))
+returns-4 c = rw (le-leb _ _ (c .before .before .before .before .if1 .left), sym (c .before .before .before .field-at .ensures), sym (c .before .before .holds .ensures) ∙ not-false _ (c .before .if2 .left), not-false (fits (c .before .before)) (c .if3 .left))
 
 pub section-at-spec : {M : Type 1} → statement M
 section-at-spec =
@@ -45,10 +54,10 @@ section-at-spec =
     returns
     field-at-requires
     holds-requires
+    add-whole
+    cast-whole
+    mul-whole
+    add-whole-2
     returns-2
-    add-if3
-    cast-if3
-    mul-if3
-    add-if3-2
     returns-3
     returns-4)

@@ -1,13 +1,33 @@
-use mathlib.Core.Path.{sym, ap, _∙_}
-use Prim.Native.Nat.{_+_, _*_}
+use mathlib.Core.Path.{_≡_, sym, ap, _∙_}
+use mathlib.Core.List.{List}
+use Prim.Native.Nat.{ℕ, _+_, _*_}
 use denote.Ref.{now}
+use lib.Dec.{eqb}
 use borrow.Author.Tests.{eq-eqb, ne-eqb}
-use Rattle.block.specs.Read.{sections}
+use Rattle.exact.specs.Outcome.{accepted}
+use Rattle.block.specs.Read.{widthOk, sectionAt, sections}
 use Rattle.block.specs.Steps.{toldCount}
 use Rattle.block.proofs.Walking.{section-said}
 use borrow.Author.Needs.{needs}
 use Rattle.block.proofs.sections.Statement.{statement}
 use Rattle.block.proofs.sections.Tie as tie
+
+-- ---- what each section said
+module _ (c : tie.After-w) where
+  abbrev bytes : List ℕ
+  bytes = now (c .before .before .before .before .args .bytes)
+
+  abbrev count : ℕ
+  count = c .w .given .0 .0
+
+  luma : sectionAt bytes 3 widthOk ≡ accepted count
+  luma = sym (c .before .before .section-at .ensures) ∙ ap toldCount (c .w .given .1)
+
+cb : (c : tie.After-section-at2) → let w = c .before .before .before in sectionAt (bytes w) (5 + 2 * count w) (eqb (count w)) ≡ toldCount (c .section-at2 .result)
+cb c = let w = c .before .before .before in section-said (bytes w) (5 + 2 * count w) (count w) (c .section-at2 .result) (rw (c .before .cb-count .ensures) at (c .section-at2 .ensures))
+
+cr : (c : tie.After-section-at3) → let w = c .before .before .before .before .before .before .before in sectionAt (bytes w) (7 + 4 * count w) (eqb (count w)) ≡ toldCount (c .section-at3 .result)
+cr c = let w = c .before .before .before .before .before .before .before in section-said (bytes w) (7 + 4 * count w) (count w) (c .section-at3 .result) (rw (c .before .cr-count .ensures) at (c .section-at3 .ensures))
 
 section-at-requires : tie.Need-section-at-requires
 section-at-requires c κs = search needs
@@ -18,11 +38,8 @@ enum-known-w c = search needs
 cast-n : tie.Need-cast-n
 cast-n c = search needs
 
-mul-section-at : tie.Need-mul-section-at
-mul-section-at c = search needs
-
-add-section-at : tie.Need-add-section-at
-add-section-at c = search needs
+cb-count-requires : tie.Need-cb-count-requires
+cb-count-requires c κs = search needs
 
 section-at-requires-2 : tie.Need-section-at-requires-2
 section-at-requires-2 c κs = search needs
@@ -30,11 +47,8 @@ section-at-requires-2 c κs = search needs
 enum-told : tie.Need-enum-told
 enum-told c = search needs
 
-mul-section-at-2 : tie.Need-mul-section-at-2
-mul-section-at-2 c = search needs
-
-add-section-at-2 : tie.Need-add-section-at-2
-add-section-at-2 c = search needs
+cr-count-requires : tie.Need-cr-count-requires
+cr-count-requires c κs = search needs
 
 section-at-requires-3 : tie.Need-section-at-requires-3
 section-at-requires-3 c κs = search needs
@@ -42,18 +56,15 @@ section-at-requires-3 c κs = search needs
 enum-told-2 : tie.Need-enum-told-2
 enum-told-2 c = search needs
 
-mul-if1 : tie.Need-mul-if1
-mul-if1 c = search needs
-
-add-if1 : tie.Need-add-if1
-add-if1 c = search needs
+size-requires : tie.Need-size-requires
+size-requires c κs = search needs
 
 returns : tie.Need-returns
 unfolding sections
 returns c =
-    let bs = now (c .before .before .before .before .before .before .before .before .before .before .before .before .args .bytes) in
-    let w = c .before .before .before .before .before .before .before .before .w .given .0 .0 in
-    rw (sym (c .before .before .before .before .before .before .before .before .before .before .section-at .ensures) ∙ ap toldCount (c .before .before .before .before .before .before .before .before .w .given .1), section-said bs (5 + 2 * w) w _ _ (c .before .before .before .before .before .before .section-at2 .ensures) (c .before .before .before .before .enum-told .given .1), section-said bs (7 + 4 * w) w _ _ (c .before .before .before .section-at3 .ensures) (c .before .enum-told2 .given .1), ne-eqb _ _ (c .if1 .taken))
+    let third = c .before .before .before .before in
+    let second = third .before .before .before .before in
+    rw (luma (second .before .before .before), cb second ∙ ap toldCount (third .before .before .enum-told .given .1), cr third ∙ ap toldCount (c .before .before .enum-told2 .given .1), ne-eqb _ _ (rw (c .before .size .ensures) at (c .if1 .taken)))
 
 enum-known-r : tie.Need-enum-known-r
 enum-known-r c = search needs
@@ -67,23 +78,22 @@ enum-known-r-3 c = search needs
 returns-2 : tie.Need-returns-2
 unfolding sections
 returns-2 c =
-    let bs = now (c .before .before .before .before .before .before .before .before .before .before .before .before .args .bytes) in
-    let w = c .before .before .before .before .before .before .before .before .w .given .0 .0 in
-    rw (sym (c .before .before .before .before .before .before .before .before .before .before .section-at .ensures) ∙ ap toldCount (c .before .before .before .before .before .before .before .before .w .given .1), section-said bs (5 + 2 * w) w _ _ (c .before .before .before .before .before .before .section-at2 .ensures) (c .before .before .before .before .enum-told .given .1), section-said bs (7 + 4 * w) w _ _ (c .before .before .before .section-at3 .ensures) (c .before .enum-told2 .given .1), eq-eqb _ _ (c .if1 .left))
+    let third = c .before .before .before .before in
+    let second = third .before .before .before .before in
+    rw (luma (second .before .before .before), cb second ∙ ap toldCount (third .before .before .enum-told .given .1), cr third ∙ ap toldCount (c .before .before .enum-told2 .given .1), eq-eqb _ _ (rw (c .before .size .ensures) at (c .if1 .left)))
 
 returns-3 : tie.Need-returns-3
 unfolding sections
 returns-3 c =
-    let bs = now (c .before .before .before .before .before .before .before .before .before .before .before .before .args .bytes) in
-    let w = c .before .before .before .before .before .before .before .before .w .given .0 .0 in
-    rw (sym (c .before .before .before .before .before .before .before .before .before .before .section-at .ensures) ∙ ap toldCount (c .before .before .before .before .before .before .before .before .w .given .1), section-said bs (5 + 2 * w) w _ _ (c .before .before .before .before .before .before .section-at2 .ensures) (c .before .before .before .before .enum-told .given .1), section-said bs (7 + 4 * w) w _ _ (c .before .before .before .section-at3 .ensures) (c .before .r .given .1))
+    let third = c .before .before .before in
+    let second = third .before .before .before .before in
+    rw (luma (second .before .before .before), cb second ∙ ap toldCount (third .before .before .enum-told .given .1), cr third ∙ ap toldCount (c .before .r .given .1))
 
 returns-4 : tie.Need-returns-4
 unfolding sections
 returns-4 c =
-    let bs = now (c .before .before .before .before .before .before .before .before .before .args .bytes) in
-    let w = c .before .before .before .before .before .w .given .0 .0 in
-    rw (sym (c .before .before .before .before .before .before .before .section-at .ensures) ∙ ap toldCount (c .before .before .before .before .before .w .given .1), section-said bs (5 + 2 * w) w _ _ (c .before .before .before .section-at2 .ensures) (c .before .r2 .given .1))
+    let second = c .before .before .before in
+    rw (luma (second .before .before .before), cb second ∙ ap toldCount (c .before .r2 .given .1))
 
 returns-5 : tie.Need-returns-5
 unfolding sections
@@ -96,16 +106,13 @@ sections-spec =
     section-at-requires
     enum-known-w
     cast-n
-    mul-section-at
-    add-section-at
+    cb-count-requires
     section-at-requires-2
     enum-told
-    mul-section-at-2
-    add-section-at-2
+    cr-count-requires
     section-at-requires-3
     enum-told-2
-    mul-if1
-    add-if1
+    size-requires
     returns
     enum-known-r
     enum-known-r-2

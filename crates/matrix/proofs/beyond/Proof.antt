@@ -1,27 +1,45 @@
+use mathlib.Core.Path.{_≡_}
 use native.Mathlib.Omega.{arith}
+use lib.IntN.{pos}
+use mir.Syntax.{w64}
+use mir.Val.{toZ, ofZ}
+use mir.ValLaws.{toZ-ofZ, toZ-pos}
 use borrow.Author.Needs.{needs}
-use Rattle.matrix.proofs.Raised.{counted}
+use Rattle.matrix.proofs.Clipping.{counted}
 use Rattle.matrix.proofs.beyond.Statement.{statement}
 use Rattle.matrix.proofs.beyond.Tie as tie
 
-add-result : tie.Need-add-result
-add-result c = search needs
+module _ (c : tie.After-struct-known2) where
+  abbrev s : tie.Start
+  s = c .before .before
+
+  read : toZ w64 (ofZ w64 (s .args .v)) ≡ s .args .v
+  read = toZ-ofZ w64 (s .args .v) (s .fits .v)
+
+  low-read : toZ w64 (s .args .n .low) ≡ pos (s .args .n .low)
+  low-read = toZ-pos w64 (s .args .n .low) (omega (arith, c .before .struct-known .given))
+
+  high-read : toZ w64 (s .args .n .high) ≡ pos (s .args .n .high)
+  high-read = toZ-pos w64 (s .args .n .high) (omega (arith, c .struct-known2 .given))
 
 cast-result : tie.Need-cast-result
 cast-result c = search needs
 
-add-result-2 : tie.Need-add-result-2
-add-result-2 c = search needs
-
 cast-result-2 : tie.Need-cast-result-2
 cast-result-2 c = search needs
 
-add-result-3 : tie.Need-add-result-3
-add-result-3 c = omega (arith, counted (c .before .before .args .n) (c .before .before .args .v) (c .before .before .pre) .1)
+cast-result-3 : tie.Need-cast-result-3
+cast-result-3 c = search needs
+
+cast-result-4 : tie.Need-cast-result-4
+cast-result-4 c = search needs
+
+add-result : tie.Need-add-result
+add-result c = rw (read c, low-read c, high-read c) record { fits = omega (arith, counted (s c .args .n) (s c .args .v) (s c .pre) .1) }
 
 returns : tie.Need-returns
-returns c = counted (c .before .before .args .n) (c .before .before .args .v) (c .before .before .pre)
+returns c = rw (read c, low-read c, high-read c) (counted (s c .args .n) (s c .args .v) (s c .pre))
 
 pub beyond-spec : {M : Type 1} → statement M
 beyond-spec =
-    tie.close (tie.spec add-result cast-result add-result-2 cast-result-2 add-result-3 returns)
+    tie.close (tie.spec cast-result cast-result-2 cast-result-3 cast-result-4 add-result returns)

@@ -1,29 +1,50 @@
+use mathlib.Core.Path.{_≡_, refl}
+use mathlib.Core.Bool.{Bool, true, false}
+use native.Mathlib.Omega.{arith}
+use lib.IntN.{ℤ, pos}
+use lib.Signed.{ltZ}
+use mir.Syntax.{w64}
+use mir.Val.{toZ, ofZ}
+use mir.ValLaws.{toZ-ofZ, toZ-pos}
 use borrow.Author.Needs.{needs}
-use Rattle.matrix.proofs.Raised.{held}
+use Rattle.matrix.proofs.Clipping.{clipped-by, natural-inside}
 use Rattle.matrix.proofs.clip.Statement.{statement}
 use Rattle.matrix.proofs.clip.Tie as tie
 
-add-at-least : tie.Need-add-at-least
-add-at-least c = search needs
+below : (c : tie.After-struct-known) (b : Bool) → ltZ (toZ w64 (ofZ w64 (c .before .args .v))) (toZ w64 (c .before .args .n .low)) ≡ b → ltZ (c .before .args .v) (pos (c .before .args .n .low)) ≡ b
+below c b h = rw (toZ-ofZ w64 (c .before .args .v) (c .before .fits .v), toZ-pos w64 (c .before .args .n .low) (omega (arith, c .struct-known .given))) at h
 
-at-least-requires : tie.Need-at-least-requires
-at-least-requires c κs = search needs
+above : (c : tie.After-struct-known2) (b : Bool) →
+    let s = c .before .before .before in
+    ltZ (toZ w64 (s .args .n .high)) (toZ w64 (ofZ w64 (s .args .v))) ≡ b → ltZ (pos (s .args .n .high)) (s .args .v) ≡ b
+above c b h =
+    let s = c .before .before .before in
+    rw (toZ-ofZ w64 (s .args .v) (s .fits .v), toZ-pos w64 (s .args .n .high) (omega (arith, c .struct-known2 .given))) at h
 
-add-at-most : tie.Need-add-at-most
-add-at-most c = search needs
-
-at-most-requires : tie.Need-at-most-requires
-at-most-requires c κs = search needs
-
-sub-result : tie.Need-sub-result
-sub-result c =
-    let start = c .before .before .before .before in
-    rw (c .at-most .ensures, c .before .before .at-least .ensures) (held (start .args .n) (start .args .v) (start .pre) .0)
+cast-if1 : tie.Need-cast-if1
+cast-if1 c = search needs
 
 returns : tie.Need-returns
-returns c =
-    let start = c .before .before .before .before in
-    rw (c .at-most .ensures, c .before .before .at-least .ensures) (held (start .args .n) (start .args .v) (start .pre) .1)
+returns c = let s = c .before .before in clipped-by (s .args .n) (s .args .v) true (ltZ (pos (s .args .n .high)) (s .args .v)) (below (c .before) true (c .if1 .taken)) refl
+
+cast-if2 : tie.Need-cast-if2
+cast-if2 c = search needs
+
+returns-2 : tie.Need-returns-2
+returns-2 c =
+    let s = c .before .before .before .before in
+    clipped-by (s .args .n) (s .args .v) false true (below (c .before .before .before) false (c .before .before .if1 .left)) (above (c .before) true (c .if2 .taken))
+
+cast-result : tie.Need-cast-result
+cast-result c =
+    let s = c .before .before .before .before in
+    let k = natural-inside (s .args .n) (s .args .v) (below (c .before .before .before) false (c .before .before .if1 .left)) (above (c .before) false (c .if2 .left)) in
+    rw (toZ-ofZ w64 (s .args .v) (s .fits .v)) (k .0, record { fits = omega (arith, k .1, c .before .struct-known2 .given) })
+
+returns-3 : tie.Need-returns-3
+returns-3 c =
+    let s = c .before .before .before .before in
+    rw (toZ-ofZ w64 (s .args .v) (s .fits .v)) (natural-inside (s .args .n) (s .args .v) (below (c .before .before .before) false (c .before .before .if1 .left)) (above (c .before) false (c .if2 .left)) .2)
 
 pub clip-spec : {M : Type 1} → statement M
-clip-spec = tie.close (tie.spec add-at-least at-least-requires add-at-most at-most-requires sub-result returns)
+clip-spec = tie.close (tie.spec cast-if1 returns cast-if2 returns-2 cast-result returns-3)

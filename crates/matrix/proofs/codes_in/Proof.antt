@@ -1,16 +1,28 @@
+use native.Mathlib.Omega.{arith}
+use mathlib.Core.Path.{_≡_}
+use mir.Syntax.{w64}
+use mir.Val.{toZ, ofZ}
 use borrow.Author.Needs.{needs}
-use Rattle.matrix.proofs.Raised.{codes-from-raised}
+use Rattle.exact.proofs.Machine.{reads-back}
+use Rattle.systems.specs.Systems.{matrix, scale}
+use Rattle.systems.proofs.Scales.{scale-range}
+use Rattle.matrix.specs.Triples.{codesAt}
+use Rattle.matrix.specs.Rows.{unclippedAt}
+use Rattle.matrix.proofs.DecodingRows.{unclipped-small}
 use Rattle.matrix.proofs.codes_in.Statement.{statement}
 use Rattle.matrix.proofs.codes_in.Tie as tie
 
-raised-of-requires : tie.Need-raised-of-requires
-raised-of-requires c κs = search needs
+components-read : (c : tie.After-unclipped-in) → let v = c .unclipped-in .result in (toZ w64 (ofZ w64 (v .r)) ≡ v .r) × (toZ w64 (ofZ w64 (v .g)) ≡ v .g) × (toZ w64 (ofZ w64 (v .b)) ≡ v .b)
+components-read c =
+    let s = c .before in
+    let small = unclipped-small (scale (s .args .y)) (s .args .w) (scale-range (s .args .y) .1) (s .pre) (matrix (s .args .y)) in
+    rw (c .unclipped-in .ensures) (reads-back _ (omega (arith, small .0)), reads-back _ (omega (arith, small .1)), reads-back _ (omega (arith, small .2)))
 
-mul-count : tie.Need-mul-count
-mul-count c = search needs
+unclipped-in-requires : tie.Need-unclipped-in-requires
+unclipped-in-requires c κs = search needs
 
-mul-count-2 : tie.Need-mul-count-2
-mul-count-2 c = search needs
+nominal-requires : tie.Need-nominal-requires
+nominal-requires c κs = search needs
 
 clip-requires : tie.Need-clip-requires
 clip-requires c κs = search needs
@@ -22,43 +34,41 @@ clip-requires-3 : tie.Need-clip-requires-3
 clip-requires-3 c κs = search needs
 
 beyond-requires : tie.Need-beyond-requires
-beyond-requires c κs = search needs
+beyond-requires c κs = rw (c .before .before .before .before .before .before .before .nominal .ensures) (omega arith)
 
 beyond-requires-2 : tie.Need-beyond-requires-2
-beyond-requires-2 c κs = search needs
+beyond-requires-2 c κs = rw (c .before .before .before .before .before .before .before .before .before .nominal .ensures) (omega arith)
 
-add-count : tie.Need-add-count
-add-count c = search needs
+add-t11 : tie.Need-add-t11
+add-t11 c = search needs
 
 beyond-requires-3 : tie.Need-beyond-requires-3
-beyond-requires-3 c κs = search needs
+beyond-requires-3 c κs = rw (c .before .before .before .before .before .before .before .before .before .before .before .nominal .ensures) (omega arith)
 
-add-count-2 : tie.Need-add-count-2
-add-count-2 c = search needs
-
-cast-t12 : tie.Need-cast-t12
-cast-t12 c = search needs
+add-t13 : tie.Need-add-t13
+add-t13 c = search needs
 
 returns : tie.Need-returns
+unfolding codesAt unclippedAt
 returns c =
-    let p = c .before .before .before .before .before .before in
-    rw (c .before .before .before .before .before .clip .ensures, c .before .before .before .before .clip2 .ensures, c .before .before .before .clip3 .ensures, c .before .before .beyond .ensures .0, c .before .beyond2 .ensures .0, c .beyond3 .ensures .0, p .raised-of .ensures)
-    (codes-from-raised _ _ _ (p .before .pre .0) (p .before .pre .1))
+    let b = c .before .before .before .before in
+    let k = b .before .before in
+    let n = k .before .before .before .before .before .before in
+    let v = components-read (n .before) in
+    rw (k .before .before .before .before .clip .ensures, k .before .before .clip2 .ensures, k .clip3 .ensures, b .beyond .ensures .0, c .before .before .beyond2 .ensures .0, c .beyond3 .ensures .0, n .nominal .ensures, v .0, v .1, v .2, n .before .unclipped-in .ensures)
 
 pub codes-in-spec : {M : Type 1} → statement M
 codes-in-spec =
     tie.close
     (tie.spec
-    raised-of-requires
-    mul-count
-    mul-count-2
+    unclipped-in-requires
+    nominal-requires
     clip-requires
     clip-requires-2
     clip-requires-3
     beyond-requires
     beyond-requires-2
-    add-count
+    add-t11
     beyond-requires-3
-    add-count-2
-    cast-t12
+    add-t13
     returns)

@@ -1,7 +1,8 @@
 use mathlib.Core.Path.{_∙_, sym}
 use borrow.Author.Needs.{needs}
+use Rattle.systems.specs.Systems.{scale}
 use Rattle.systems.proofs.Scales.{scale-range}
-use Rattle.matrix.proofs.Tested.{nominal-words}
+use Rattle.matrix.proofs.Tested.{nominal-words, twelve-bits}
 use Rattle.matrix.proofs.codes_of_words.Statement.{statement}
 use Rattle.matrix.proofs.codes_of_words.Tie as tie
 
@@ -14,27 +15,20 @@ enum-known-y c = search needs
 nominal-in-requires : tie.Need-nominal-in-requires
 nominal-in-requires c κs = search needs
 
-matrix-requires : tie.Need-matrix-requires
-matrix-requires c κs = search needs
-
-scale-requires : tie.Need-scale-requires
-scale-requires c κs = search needs
-
 codes-in-requires : tie.Need-codes-in-requires
 codes-in-requires c κs =
-    let tested = c .before .before .before in
-    let named = tested .before .before in
+    let named = c .before .before .before in
     let y = named .y .given .0 .0 in
-    rw (c .scale .ensures) (scale-range y .1, nominal-words y (named .before .before .before .args .words) (sym (tested .nominal-in .ensures) ∙ c .before .before .if1 .taken))
+    twelve-bits (scale y) (named .before .before .before .args .words) (scale-range y .1) (nominal-words y (named .before .before .before .args .words) (sym (c .before .nominal-in .ensures) ∙ c .if1 .taken))
 
 enum-told : tie.Need-enum-told
 enum-told c = search needs
 
 returns : tie.Need-returns
 returns c =
-    let tested = c .before .before .before .before in
+    let tested = c .before .before in
     let named = tested .before .before in
-    rw (sym (named .before .before .from-number .ensures), named .y .given .1, sym (tested .nominal-in .ensures) ∙ c .before .before .before .if1 .taken, c .codes-in .ensures, c .before .scale .ensures, c .before .before .matrix .ensures)
+    rw (sym (named .before .before .from-number .ensures), named .y .given .1, sym (tested .nominal-in .ensures) ∙ c .before .if1 .taken, c .codes-in .ensures)
 
 returns-2 : tie.Need-returns-2
 returns-2 c =
@@ -51,8 +45,6 @@ codes-of-words-spec =
     from-number-requires
     enum-known-y
     nominal-in-requires
-    matrix-requires
-    scale-requires
     codes-in-requires
     enum-told
     returns

@@ -1,148 +1,130 @@
 use mathlib.Core.Path.{_≡_, ap, _∙_}
-use Prim.Native.Nat.{ℕ, _*_, _^_, _<_}
+use Prim.Native.Nat.{ℕ, _+_, _*_, _-_, _/_, _^_, _≤_, _<_}
 use native.Mathlib.Omega.{arith}
-use lib.IntN.{ℤ, pos, natAbs, _*ℤ_}
+use lib.IntN.{ℤ, pos, natAbs, _-ℤ_, _*ℤ_}
 use mir.Syntax.{w64}
 use mir.Val.{toZ, ofZ}
 use mir.ValLaws.{toZ-ofZ, toZ-pos}
 use borrow.Author.Needs.{needs, sfits-of}
-use Rattle.exact.proofs.Machine.{natAbs-mul, fits-i64, reads-back, positive, is-positive}
-use Rattle.matrix.specs.Rows.{parts, inParts}
-use Rattle.matrix.proofs.ColourDifference.{Counted, start, counted, taken-small}
+use Rattle.exact.proofs.Difference.{pos-less, sub-pos}
+use Rattle.exact.proofs.Machine.{fits-i64, reads-back, shifted-reads-back, positive, is-positive}
+use Rattle.matrix.specs.Rows.{unit, fixed}
+use Rattle.matrix.proofs.ColourDifference.{start, total, difference-rounds, taken-small, total-small}
 use Rattle.matrix.proofs.colour_difference.Statement.{statement}
 use Rattle.matrix.proofs.colour_difference.Tie as tie
 
 module _ (s : tie.Start) where
-  abbrev own : ℕ
-  own = natAbs (s .args .own)
+  abbrev weight : ℕ
+  weight = natAbs (s .args .weight)
 
   abbrev bottom : ℕ
-  bottom = 438 * own
+  bottom = 438 * (10000 - weight)
 
   abbrev m : ℕ
-  m = 128 * s .args .s
+  m = s .args .middle
 
   abbrev above : ℤ
   above = s .args .above
 
-  own-positive : 0 < own
-  own-positive = positive (s .args .own) (s .pre .0) .1
-
-  total : Counted above m bottom
-  total = counted m bottom (omega arith) (omega (arith, own-positive)) (omega arith) (omega arith) above (s .pre .3) (s .pre .4)
-
   above-read : toZ w64 (ofZ w64 above) ≡ above
-  above-read = reads-back above (omega arith)
+  above-read = toZ-ofZ w64 above (s .fits .above)
 
-  own-read : toZ w64 (ofZ w64 (s .args .own)) ≡ pos own
-  own-read = reads-back (s .args .own) (omega arith) ∙ positive (s .args .own) (s .pre .0) .0
+  own-is : pos 10000 -ℤ toZ w64 (ofZ w64 (s .args .weight)) ≡ pos (10000 - weight)
+  own-is = ap (λ (z : ℤ). pos 10000 -ℤ z) (toZ-ofZ w64 (s .args .weight) (s .fits .weight) ∙ positive (s .args .weight) (s .pre .0) .0) ∙ pos-less 10000 weight ∙ sub-pos 10000 weight (omega (arith, s .pre .2))
 
-  bottom-read : toZ w64 (ofZ w64 (pos 438 *ℤ toZ w64 (ofZ w64 (s .args .own)))) ≡ pos bottom
-  bottom-read = rw (own-read) (toZ-pos w64 bottom (omega arith))
+  own-read : toZ w64 (ofZ w64 (pos (10000 - weight))) ≡ pos (10000 - weight)
+  own-read = reads-back (pos (10000 - weight)) (omega arith)
+
+  bottom-is : toZ w64 (ofZ w64 (pos 438 *ℤ toZ w64 (ofZ w64 (pos 10000 -ℤ toZ w64 (ofZ w64 (s .args .weight)))))) ≡ pos bottom
+  bottom-is = rw (own-is, own-read) (reads-back (pos bottom) (omega arith))
 
   m-read : toZ w64 m ≡ pos m
-  m-read = toZ-pos w64 m (omega arith)
+  m-read = toZ-pos w64 m (omega (arith, s .pre .3))
 
-  m-parts-read : toZ w64 (m * parts) ≡ pos (m * parts)
-  m-parts-read = toZ-pos w64 (m * parts) (omega arith)
+  m-unit-read : toZ w64 (m * unit) ≡ pos (m * unit)
+  m-unit-read = toZ-pos w64 (m * unit) (omega (arith, s .pre .3))
 
   start-read : toZ w64 (start m) ≡ pos (start m)
-  start-read = toZ-pos w64 (start m) (omega arith)
+  start-read = toZ-pos w64 (start m) (omega (arith, s .pre .3))
 
   -- what the steps take off
   abbrev taken : ℤ
-  taken = above *ℤ pos (inParts 224 bottom)
+  taken = above *ℤ pos (fixed 224 bottom)
 
   taken-fits : natAbs taken < 2 ^ 63
-  taken-fits = omega (arith, natAbs-mul above (pos (inParts 224 bottom)), taken-small m bottom (omega arith) (omega (arith, own-positive)) (omega arith) (omega arith) (natAbs above) (s .pre .4))
+  taken-fits = omega (arith, taken-small m bottom (s .pre .3) (omega (arith, s .pre .2)) (omega (arith, s .pre .1)) (omega arith) above (s .pre .4))
 
-  taken-read : toZ w64 (ofZ w64 taken) ≡ taken
-  taken-read = reads-back taken taken-fits
+  abbrev sum : ℤ
+  sum = total m bottom above
 
-  total-read : toZ w64 (total .value) ≡ pos (total .value)
-  total-read = toZ-pos w64 (total .value) (omega (arith, total .most))
+  sum-fits : natAbs sum < 2 ^ 63
+  sum-fits = total-small m bottom (s .pre .3) (omega (arith, s .pre .2)) (omega (arith, s .pre .1)) (omega arith) above (s .pre .4)
 
-step-read : (c : tie.After-in-parts) → toZ w64 (ofZ w64 (c .in-parts .result)) ≡ pos (inParts 224 (bottom (c .before)))
+step-read : (c : tie.After-fixed) → toZ w64 (ofZ w64 (c .fixed .result)) ≡ pos (fixed 224 (bottom (c .before)))
 step-read c =
-    toZ-ofZ w64 (c .in-parts .result) (sfits-of (c .in-parts .ok)) ∙ c .in-parts .ensures
-    ∙ ap (λ (z : ℤ). pos (inParts 224 (natAbs z))) (bottom-read (c .before))
+    toZ-ofZ w64 (c .fixed .result) (sfits-of (c .fixed .ok)) ∙ c .fixed .ensures
+    ∙ (λ i. pos (fixed 224 (natAbs (bottom-is (c .before) i))))
 
-mul-middle : tie.Need-mul-middle
-mul-middle c = search needs
+mul-fixed : tie.Need-mul-fixed
+mul-fixed c = search needs
 
-cast-middle : tie.Need-cast-middle
-cast-middle c = search needs
+sub-fixed : tie.Need-sub-fixed
+sub-fixed c = rw (own-is c) (fits-i64 (pos (10000 - weight c)) (omega arith))
 
-mul-in-parts : tie.Need-mul-in-parts
-mul-in-parts c = search needs
+mul-fixed-2 : tie.Need-mul-fixed-2
+mul-fixed-2 c = rw (own-is c, own-read c) (fits-i64 (pos (bottom c)) (omega arith))
 
-mul-in-parts-2 : tie.Need-mul-in-parts-2
-mul-in-parts-2 c = rw (own-read c) (fits-i64 (pos (bottom c)) (omega arith))
+fixed-requires : tie.Need-fixed-requires
+fixed-requires c κs = rw (bottom-is c) (record { lt = tt }, is-positive (bottom c) (omega (arith, c .pre .2)), omega arith, omega (arith, c .pre .2))
 
-in-parts-requires : tie.Need-in-parts-requires
-in-parts-requires c κs = rw (bottom-read c) (record { lt = tt }, is-positive (bottom c) (omega (arith, own-positive c)), omega arith, omega (arith, own-positive c))
+cast-sum : tie.Need-cast-sum
+cast-sum c = search needs
 
-mul-parts : tie.Need-mul-parts
-mul-parts c = let s = c .before in rw (m-read s) (fits-i64 (pos (m s * parts)) (omega arith))
+mul-sum : tie.Need-mul-sum
+mul-sum c = let s = c .before in rw (m-read s) (fits-i64 (pos (m s * unit)) (omega (arith, s .pre .3)))
 
-div-parts : tie.Need-div-parts
-div-parts c = search needs
+div-sum : tie.Need-div-sum
+div-sum c = search needs
 
-add-parts : tie.Need-add-parts
-add-parts c = search needs
+add-sum : tie.Need-add-sum
+add-sum c = search needs
 
-add-parts-2 : tie.Need-add-parts-2
-add-parts-2 c = let s = c .before in rw (m-read s, m-parts-read s) (fits-i64 (pos (start (m s))) (omega arith))
+add-sum-2 : tie.Need-add-sum-2
+add-sum-2 c = let s = c .before in rw (m-read s, m-unit-read s) (fits-i64 (pos (start (m s))) (omega (arith, s .pre .3)))
 
-mul-parts-2 : tie.Need-mul-parts-2
-mul-parts-2 c = let s = c .before in rw (above-read s, step-read c) (fits-i64 (taken s) (taken-fits s))
+mul-sum-2 : tie.Need-mul-sum-2
+mul-sum-2 c = let s = c .before in rw (above-read s, step-read c) (fits-i64 (taken s) (taken-fits s))
 
-sub-parts : tie.Need-sub-parts
-sub-parts c =
-    let s = c .before in
-    rw (above-read s, step-read c, m-read s, m-parts-read s, start-read s, taken-read s, total s .is)
-    (fits-i64 (pos (total s .value)) (omega (arith, total s .most)))
+sub-sum : tie.Need-sub-sum
+sub-sum c = let s = c .before in rw (above-read s, step-read c, m-read s, m-unit-read s, start-read s, reads-back (taken s) (taken-fits s)) (fits-i64 (sum s) (sum-fits s))
 
 cast-result : tie.Need-cast-result
-cast-result c =
-    let s = c .before in
-    rw (above-read s, step-read c, m-read s, m-parts-read s, start-read s, taken-read s, total s .is, total-read s)
-    (tt, record { fits = omega (arith, total s .most) })
+cast-result c = search needs
 
-cast-result-2 : tie.Need-cast-result-2
-cast-result-2 c = search needs
-
-div-result : tie.Need-div-result
-div-result c = search needs
-
-cast-result-3 : tie.Need-cast-result-3
-cast-result-3 c =
-    let s = c .before in
-    rw (above-read s, step-read c, m-read s, m-parts-read s, start-read s, taken-read s, total s .is, total-read s)
-    record { fits = omega (arith, total s .most) }
+shr-result : tie.Need-shr-result
+shr-result c = search needs
 
 returns : tie.Need-returns
 returns c =
     let s = c .before in
-    rw (above-read s, step-read c, m-read s, m-parts-read s, start-read s, taken-read s, total s .is, total-read s) (total s .quotient)
+    rw (above-read s, step-read c, m-read s, m-unit-read s, start-read s, reads-back (taken s) (taken-fits s), reads-back (sum s) (sum-fits s))
+    (shifted-reads-back (sum s) unit (sum-fits s) ∙ difference-rounds (m s) (bottom s) (s .pre .3) (omega (arith, s .pre .2)) (omega (arith, s .pre .1)) (omega arith) (above s) (s .pre .4))
 
 pub colour-difference-spec : {M : Type 1} → statement M
 colour-difference-spec =
     tie.close
     (tie.spec
-    mul-middle
-    cast-middle
-    mul-in-parts
-    mul-in-parts-2
-    in-parts-requires
-    mul-parts
-    div-parts
-    add-parts
-    add-parts-2
-    mul-parts-2
-    sub-parts
+    mul-fixed
+    sub-fixed
+    mul-fixed-2
+    fixed-requires
+    cast-sum
+    mul-sum
+    div-sum
+    add-sum
+    add-sum-2
+    mul-sum-2
+    sub-sum
     cast-result
-    cast-result-2
-    div-result
-    cast-result-3
+    shr-result
     returns)

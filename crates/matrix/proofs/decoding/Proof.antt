@@ -47,62 +47,62 @@ mul-cb-2 c = elim (row (c .before .before .before .before)) [
   | inr e ↦ rw (e .1) record { sfits = lit< tt }
 ]
 
-mul-in-parts : tie.Need-mul-in-parts
-mul-in-parts c = elim (row (c .before .before .before .before .before .before)) [
+mul-fixed : tie.Need-mul-fixed
+mul-fixed c = elim (row (c .before .before .before .before .before .before)) [
   | inl e ↦ rw (e .1) record { sfits = lit< tt }
   | inr e ↦ rw (e .1) record { sfits = lit< tt }
 ]
 
-mul-in-parts-2 : tie.Need-mul-in-parts-2
-mul-in-parts-2 c = elim (row (c .before .before .before .before .before .before .before .before)) [
+mul-fixed-2 : tie.Need-mul-fixed-2
+mul-fixed-2 c = elim (row (c .before .before .before .before .before .before .before .before)) [
   | inl e ↦ rw (e .1) record { sfits = lit< tt }
   | inr e ↦ rw (e .1) record { sfits = lit< tt }
 ]
 
-in-parts-requires : tie.Need-in-parts-requires
-in-parts-requires c κs = elim (row (c .before .before .before .before .before .before .before .before)) [
+fixed-requires : tie.Need-fixed-requires
+fixed-requires c κs = elim (row (c .before .before .before .before .before .before .before .before)) [
   | inl e ↦ rw (e .1) (record { lt = tt }, record { lt = tt }, lit≤ tt, lit≤ tt)
   | inr e ↦ rw (e .1) (record { lt = tt }, record { lt = tt }, lit≤ tt, lit≤ tt)
 ]
 
-mul-in-parts-3 : tie.Need-mul-in-parts-3
-mul-in-parts-3 c = elim (row (c .before .before .before .before .before .before .before .before .before .before .before)) [
+mul-fixed-3 : tie.Need-mul-fixed-3
+mul-fixed-3 c = elim (row (c .before .before .before .before .before .before .before .before .before .before .before)) [
   | inl e ↦ rw (e .1) record { sfits = lit< tt }
   | inr e ↦ rw (e .1) record { sfits = lit< tt }
 ]
 
-mul-in-parts-4 : tie.Need-mul-in-parts-4
-mul-in-parts-4 c = elim (row (c .before .before .before .before .before .before .before .before .before .before .before .before .before)) [
+mul-fixed-4 : tie.Need-mul-fixed-4
+mul-fixed-4 c = elim (row (c .before .before .before .before .before .before .before .before .before .before .before .before .before)) [
   | inl e ↦ rw (e .1) record { sfits = lit< tt }
   | inr e ↦ rw (e .1) record { sfits = lit< tt }
 ]
 
-in-parts-requires-2 : tie.Need-in-parts-requires-2
-in-parts-requires-2 c κs = elim (row (c .before .before .before .before .before .before .before .before .before .before .before .before .before)) [
+fixed-requires-2 : tie.Need-fixed-requires-2
+fixed-requires-2 c κs = elim (row (c .before .before .before .before .before .before .before .before .before .before .before .before .before)) [
   | inl e ↦ rw (e .1) (record { lt = tt }, record { lt = tt }, lit≤ tt, lit≤ tt)
   | inr e ↦ rw (e .1) (record { lt = tt }, record { lt = tt }, lit≤ tt, lit≤ tt)
 ]
 
-in-parts-requires-3 : tie.Need-in-parts-requires-3
-in-parts-requires-3 c κs = elim (row (c .before .before .before .before .before .before .before .before .before .before .before .before .before .before)) [
+fixed-requires-3 : tie.Need-fixed-requires-3
+fixed-requires-3 c κs = elim (row (c .before .before .before .before .before .before .before .before .before .before .before .before .before .before)) [
   | inl e ↦ rw (e .1) (record { lt = tt }, record { lt = tt }, lit≤ tt, lit≤ tt)
   | inr e ↦ rw (e .1) (record { lt = tt }, record { lt = tt }, lit≤ tt, lit≤ tt)
 ]
 
 sub-t9 : tie.Need-sub-t9
 sub-t9 c = elim (row (c .before .before .before .before .before .before .before .before .before .before .before .before .before .before .before)) [
-  | inl e ↦ rw (c .before .before .before .before .before .before .in-parts .ensures, e .1) record { sfits = lit< tt }
-  | inr e ↦ rw (c .before .before .before .before .before .before .in-parts .ensures, e .1) record { sfits = lit< tt }
+  | inl e ↦ rw (c .before .before .before .before .before .before .fixed .ensures, e .1) record { sfits = lit< tt }
+  | inr e ↦ rw (c .before .before .before .before .before .before .fixed .ensures, e .1) record { sfits = lit< tt }
 ]
 
 sub-t11 : tie.Need-sub-t11
 sub-t11 c = elim (row (c .before .before .before .before .before .before .before .before .before .before .before .before .before .before .before)) [
-  | inl e ↦ rw (c .before .in-parts2 .ensures, e .1) record { sfits = lit< tt }
-  | inr e ↦ rw (c .before .in-parts2 .ensures, e .1) record { sfits = lit< tt }
+  | inl e ↦ rw (c .before .fixed2 .ensures, e .1) record { sfits = lit< tt }
+  | inr e ↦ rw (c .before .fixed2 .ensures, e .1) record { sfits = lit< tt }
 ]
 
-in-parts-requires-4 : tie.Need-in-parts-requires-4
-in-parts-requires-4 c κs = elim (row (c .before .before .before .before .before .before .before .before .before .before .before .before .before .before .before)) [
+fixed-requires-4 : tie.Need-fixed-requires-4
+fixed-requires-4 c κs = elim (row (c .before .before .before .before .before .before .before .before .before .before .before .before .before .before .before)) [
   | inl e ↦ rw (e .1) (record { lt = tt }, record { lt = tt }, lit≤ tt, lit≤ tt)
   | inr e ↦ rw (e .1) (record { lt = tt }, record { lt = tt }, lit≤ tt, lit≤ tt)
 ]
@@ -110,8 +110,8 @@ in-parts-requires-4 c κs = elim (row (c .before .before .before .before .before
 returns : tie.Need-returns
 unfolding decodingRows
 returns c = elim (row (c .before .before .before .before .before .before .before .before .before .before .before .before .before .before .before .before)) [
-  | inl e ↦ rw (c .before .before .before .before .before .before .before .in-parts .ensures, c .before .before .in-parts2 .ensures, c .before .in-parts3 .ensures, c .in-parts4 .ensures, e .0, e .1) refl
-  | inr e ↦ rw (c .before .before .before .before .before .before .before .in-parts .ensures, c .before .before .in-parts2 .ensures, c .before .in-parts3 .ensures, c .in-parts4 .ensures, e .0, e .1) refl
+  | inl e ↦ rw (c .before .before .before .before .before .before .before .fixed .ensures, c .before .before .fixed2 .ensures, c .before .fixed3 .ensures, c .fixed4 .ensures, e .0, e .1) refl
+  | inr e ↦ rw (c .before .before .before .before .before .before .before .fixed .ensures, c .before .before .fixed2 .ensures, c .before .fixed3 .ensures, c .fixed4 .ensures, e .0, e .1) refl
 ]
 
 pub decoding-spec : {M : Type 1} → statement M
@@ -126,14 +126,14 @@ decoding-spec =
     mul-cb
     sub-cb
     mul-cb-2
-    mul-in-parts
-    mul-in-parts-2
-    in-parts-requires
-    mul-in-parts-3
-    mul-in-parts-4
-    in-parts-requires-2
-    in-parts-requires-3
+    mul-fixed
+    mul-fixed-2
+    fixed-requires
+    mul-fixed-3
+    mul-fixed-4
+    fixed-requires-2
+    fixed-requires-3
     sub-t9
     sub-t11
-    in-parts-requires-4
+    fixed-requires-4
     returns)

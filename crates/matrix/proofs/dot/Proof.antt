@@ -6,7 +6,8 @@ use lib.ListN.{getD}
 use mir.Syntax.{w64}
 use mir.Val.{toZ, ofZ}
 use borrow.Author.Needs.{needs}
-use Rattle.exact.proofs.Machine.{natAbs-add, natAbs-mul-le, fits-i64, reads-back}
+use Rattle.exact.proofs.Machine.{fits-i64, reads-back}
+use Rattle.matrix.proofs.Products.{product, size-0, size-1, size-2, size-sum, dotted-small}
 use Rattle.matrix.proofs.dot.Statement.{statement}
 use Rattle.matrix.proofs.dot.Tie as tie
 
@@ -17,35 +18,20 @@ module _ (s : tie.Start) where
   abbrev triple : ℕ → ℤ
   triple k = getD (s .args .t2) k (pos 0)
 
-  abbrev product : ℕ → ℤ
-  product k = row k *ℤ triple k
+  abbrev entry : ℕ → ℤ
+  entry k = product (s .args .t1) (s .args .t2) k
 
   read : (z : ℤ) → natAbs z < 2 ^ 63 → toZ w64 (ofZ w64 z) ≡ z
   read z h = reads-back z (omega arith)
 
-  size-0 : natAbs (product 0) ≤ 2 ^ 49 * 2 ^ 12
-  size-0 = natAbs-mul-le (row 0) (triple 0) (2 ^ 49) (2 ^ 12) (s .pre .row-0) (s .pre .triple-0)
-
-  size-1 : natAbs (product 1) ≤ 2 ^ 49 * 2 ^ 12
-  size-1 = natAbs-mul-le (row 1) (triple 1) (2 ^ 49) (2 ^ 12) (s .pre .row-1) (s .pre .triple-1)
-
-  size-2 : natAbs (product 2) ≤ 2 ^ 49 * 2 ^ 12
-  size-2 = natAbs-mul-le (row 2) (triple 2) (2 ^ 49) (2 ^ 12) (s .pre .row-2) (s .pre .triple-2)
-
-  size-sum : natAbs (product 0 +ℤ product 1) ≤ 2 ^ 62
-  size-sum = omega (arith, natAbs-add (product 0) (product 1), size-0, size-1)
-
-  size-all : natAbs (product 0 +ℤ product 1 +ℤ product 2) ≤ 3 * 2 ^ 61
-  size-all = omega (arith, natAbs-add (product 0 +ℤ product 1) (product 2), size-sum, size-2)
-
   row-0 : toZ w64 (ofZ w64 (row 0)) ≡ row 0
-  row-0 = read (row 0) (omega (arith, s .pre .row-0))
+  row-0 = read (row 0) (omega (arith, s .pre .first))
 
   row-1 : toZ w64 (ofZ w64 (row 1)) ≡ row 1
-  row-1 = read (row 1) (omega (arith, s .pre .row-1))
+  row-1 = read (row 1) (omega (arith, s .pre .others))
 
   row-2 : toZ w64 (ofZ w64 (row 2)) ≡ row 2
-  row-2 = read (row 2) (omega (arith, s .pre .row-2))
+  row-2 = read (row 2) (omega (arith, s .pre .others))
 
   triple-0 : toZ w64 (ofZ w64 (triple 0)) ≡ triple 0
   triple-0 = read (triple 0) (omega (arith, s .pre .triple-0))
@@ -56,20 +42,20 @@ module _ (s : tie.Start) where
   triple-2 : toZ w64 (ofZ w64 (triple 2)) ≡ triple 2
   triple-2 = read (triple 2) (omega (arith, s .pre .triple-2))
 
-  product-0 : toZ w64 (ofZ w64 (product 0)) ≡ product 0
-  product-0 = read (product 0) (omega (arith, size-0))
+  product-0 : toZ w64 (ofZ w64 (entry 0)) ≡ entry 0
+  product-0 = read (entry 0) (omega (arith, size-0 _ _ (s .pre)))
 
-  product-1 : toZ w64 (ofZ w64 (product 1)) ≡ product 1
-  product-1 = read (product 1) (omega (arith, size-1))
+  product-1 : toZ w64 (ofZ w64 (entry 1)) ≡ entry 1
+  product-1 = read (entry 1) (omega (arith, size-1 _ _ (s .pre)))
 
-  product-2 : toZ w64 (ofZ w64 (product 2)) ≡ product 2
-  product-2 = read (product 2) (omega (arith, size-2))
+  product-2 : toZ w64 (ofZ w64 (entry 2)) ≡ entry 2
+  product-2 = read (entry 2) (omega (arith, size-2 _ _ (s .pre)))
 
-  sum-01 : toZ w64 (ofZ w64 (product 0 +ℤ product 1)) ≡ product 0 +ℤ product 1
-  sum-01 = read (product 0 +ℤ product 1) (omega (arith, size-sum))
+  sum-01 : toZ w64 (ofZ w64 (entry 0 +ℤ entry 1)) ≡ entry 0 +ℤ entry 1
+  sum-01 = read (entry 0 +ℤ entry 1) (omega (arith, size-sum _ _ (s .pre)))
 
-  sum-012 : toZ w64 (ofZ w64 (product 0 +ℤ product 1 +ℤ product 2)) ≡ product 0 +ℤ product 1 +ℤ product 2
-  sum-012 = read (product 0 +ℤ product 1 +ℤ product 2) (omega (arith, size-all))
+  sum-012 : toZ w64 (ofZ w64 (entry 0 +ℤ entry 1 +ℤ entry 2)) ≡ entry 0 +ℤ entry 1 +ℤ entry 2
+  sum-012 = read (entry 0 +ℤ entry 1 +ℤ entry 2) (omega (arith, dotted-small _ _ (s .pre)))
 
 array-copy-out-result : tie.Need-array-copy-out-result
 array-copy-out-result c = search needs
@@ -78,7 +64,7 @@ array-copy-out-result-2 : tie.Need-array-copy-out-result-2
 array-copy-out-result-2 c = search needs
 
 mul-result : tie.Need-mul-result
-mul-result c = let s = c .before .before in rw (row-0 s, triple-0 s) (fits-i64 (product s 0) (omega (arith, size-0 s)))
+mul-result c = let s = c .before .before in rw (row-0 s, triple-0 s) (fits-i64 (entry s 0) (omega (arith, size-0 _ _ (s .pre))))
 
 array-copy-out-result-3 : tie.Need-array-copy-out-result-3
 array-copy-out-result-3 c = search needs
@@ -87,13 +73,13 @@ array-copy-out-result-4 : tie.Need-array-copy-out-result-4
 array-copy-out-result-4 c = search needs
 
 mul-result-2 : tie.Need-mul-result-2
-mul-result-2 c = let s = c .before .before .before .before in rw (row-1 s, triple-1 s) (fits-i64 (product s 1) (omega (arith, size-1 s)))
+mul-result-2 c = let s = c .before .before .before .before in rw (row-1 s, triple-1 s) (fits-i64 (entry s 1) (omega (arith, size-1 _ _ (s .pre))))
 
 add-result : tie.Need-add-result
 add-result c =
     let s = c .before .before .before .before in
     rw (row-0 s, triple-0 s, row-1 s, triple-1 s, product-0 s, product-1 s)
-    (fits-i64 (product s 0 +ℤ product s 1) (omega (arith, size-sum s)))
+    (fits-i64 (entry s 0 +ℤ entry s 1) (omega (arith, size-sum _ _ (s .pre))))
 
 array-copy-out-result-5 : tie.Need-array-copy-out-result-5
 array-copy-out-result-5 c = search needs
@@ -102,13 +88,13 @@ array-copy-out-result-6 : tie.Need-array-copy-out-result-6
 array-copy-out-result-6 c = search needs
 
 mul-result-3 : tie.Need-mul-result-3
-mul-result-3 c = let s = c .before .before .before .before .before .before in rw (row-2 s, triple-2 s) (fits-i64 (product s 2) (omega (arith, size-2 s)))
+mul-result-3 c = let s = c .before .before .before .before .before .before in rw (row-2 s, triple-2 s) (fits-i64 (entry s 2) (omega (arith, size-2 _ _ (s .pre))))
 
 add-result-2 : tie.Need-add-result-2
 add-result-2 c =
     let s = c .before .before .before .before .before .before in
     rw (row-0 s, triple-0 s, row-1 s, triple-1 s, row-2 s, triple-2 s, product-0 s, product-1 s, product-2 s, sum-01 s)
-    (fits-i64 (product s 0 +ℤ product s 1 +ℤ product s 2) (omega (arith, size-all s)))
+    (fits-i64 (entry s 0 +ℤ entry s 1 +ℤ entry s 2) (omega (arith, dotted-small _ _ (s .pre))))
 
 returns : tie.Need-returns
 returns c =

@@ -1,15 +1,15 @@
 use mathlib.Core.Path.{_≡_, _∙_}
-use Prim.Native.Nat.{ℕ, _+_, _^_, _<_}
+use Prim.Native.Nat.{_/_, _+_, _^_, _<_}
 use native.Mathlib.Omega.{arith}
-use lib.IntN.{ℤ, pos, _+ℤ_}
+use lib.IntN.{ℤ, pos, natAbs, _+ℤ_}
+use lib.Signed.{shrZ}
 use mir.Syntax.{w64}
 use mir.Val.{toZ, ofZ}
 use mir.ValLaws.{toZ-ofZ}
 use borrow.Author.Needs.{needs, sfits-of}
-use Rattle.exact.proofs.Machine.{fits-i64, reads-back}
-use Rattle.matrix.specs.Triples.{whole}
-use Rattle.matrix.specs.Rows.{dotted, lead}
-use Rattle.matrix.proofs.Raised.{lifted-is}
+use Rattle.exact.proofs.Machine.{natAbs-add, fits-i64, reads-back, shifted-reads-back}
+use Rattle.matrix.specs.Rows.{dotted, unit, reach}
+use Rattle.matrix.proofs.Products.{dotted-small}
 use Rattle.matrix.proofs.primary.Statement.{statement}
 use Rattle.matrix.proofs.primary.Tie as tie
 
@@ -17,68 +17,37 @@ module _ (c : tie.After-dot) where
   abbrev z : ℤ
   z = dotted (c .before .args .row) (c .before .args .triple)
 
-  -- the parts
-  abbrev t : ℕ
-  t = whole (z +ℤ pos lead)
+  -- with a half and the error bound
+  abbrev sum : ℤ
+  sum = z +ℤ pos (unit / 2 + (reach + reach))
 
   dot-read : toZ w64 (ofZ w64 (c .dot .result)) ≡ z
   dot-read = toZ-ofZ w64 (c .dot .result) (sfits-of (c .dot .ok)) ∙ c .dot .ensures
 
-  is : (z +ℤ pos lead ≡ pos t) × (t < 2 ^ 63)
-  is = let l = lifted-is z lead (omega (arith, c .before .pre .1)) in (l .0, omega (arith, l .1, c .before .pre .1))
-
-  parts-read : toZ w64 (ofZ w64 (z +ℤ pos lead)) ≡ pos t
-  parts-read = rw (is .0) (reads-back (pos t) (is .1))
+  small : natAbs sum < 2 ^ 63
+  small = omega (arith, natAbs-add z (pos (unit / 2 + (reach + reach))), dotted-small _ _ (c .before .pre))
 
 dot-requires : tie.Need-dot-requires
 dot-requires c κs = search needs
 
-cast-parts : tie.Need-cast-parts
-cast-parts c = search needs
+div-code : tie.Need-div-code
+div-code c = search needs
 
-mul-parts : tie.Need-mul-parts
-mul-parts c = search needs
+add-code : tie.Need-add-code
+add-code c = search needs
 
-div-parts : tie.Need-div-parts
-div-parts c = search needs
-
-add-parts : tie.Need-add-parts
-add-parts c = search needs
-
-add-parts-2 : tie.Need-add-parts-2
-add-parts-2 c = search needs
-
-add-parts-3 : tie.Need-add-parts-3
-add-parts-3 c = rw (dot-read c, is c .0) (fits-i64 (pos (t c)) (is c .1))
+add-code-2 : tie.Need-add-code-2
+add-code-2 c = rw (dot-read c) (fits-i64 (sum c) (small c))
 
 cast-result : tie.Need-cast-result
-cast-result c = rw (dot-read c, parts-read c) (tt, record { fits = omega (arith, is c .1) })
+cast-result c = search needs
 
-cast-result-2 : tie.Need-cast-result-2
-cast-result-2 c = search needs
-
-div-result : tie.Need-div-result
-div-result c = search needs
-
-cast-result-3 : tie.Need-cast-result-3
-cast-result-3 c = rw (dot-read c, parts-read c) record { fits = omega (arith, is c .1) }
+shr-result : tie.Need-shr-result
+shr-result c = search needs
 
 returns : tie.Need-returns
-returns c = rw (dot-read c, parts-read c)
+returns c = rw (dot-read c, reads-back (sum c) (small c)) (shifted-reads-back (sum c) unit (small c))
 
 pub primary-spec : {M : Type 1} → statement M
 primary-spec =
-    tie.close
-    (tie.spec
-    dot-requires
-    cast-parts
-    mul-parts
-    div-parts
-    add-parts
-    add-parts-2
-    add-parts-3
-    cast-result
-    cast-result-2
-    div-result
-    cast-result-3
-    returns)
+    tie.close (tie.spec dot-requires div-code add-code add-code-2 cast-result shr-result returns)

@@ -1,23 +1,27 @@
-use mathlib.Core.Path.{_≡_, refl, _∙_}
+use mathlib.Core.Path.{_≡_, refl, sym, ap, _∙_}
 use mathlib.Core.List.{List, [], _∷_}
 use mathlib.Core.Logic.{inl, inr}
-use Prim.Native.Nat.{ℕ, _*_, _-_, _^_, _≤_}
+use Prim.Native.Nat.{ℕ, _*_, _≤_}
 use native.Mathlib.Omega.{arith}
 use lib.Dec.{lit<}
-use lib.IntN.{ℤ, pos, natAbs, _-ℤ_}
+use lib.IntN.{ℤ, pos, natAbs}
 use lib.ListN.{getD}
 use mir.Syntax.{w64}
-use mir.Val.{SFits, toZ, ofZ}
+use mir.Val.{toZ, ofZ}
 use mir.ValLaws.{toZ-ofZ, toZ-pos}
 use borrow.Author.Needs.{needs, sfits-of}
+use Rattle.exact.specs.Signed.{rounded}
 use Rattle.exact.specs.Whole.{INT}
-use Rattle.exact.proofs.Machine.{fits-i64, reads-back}
+use Rattle.exact.proofs.Machine.{is-positive}
+use Rattle.exact.proofs.Rounding.{rounded-whole}
 use Rattle.systems.specs.declared.Codes.{Codes}
-use Rattle.systems.specs.Systems.{kr, kb}
-use Rattle.matrix.specs.Rows.{Small, triple, dotted}
-use Rattle.matrix.specs.Triples.{weighted}
-use Rattle.matrix.proofs.Weights.{row-of}
-use Rattle.matrix.proofs.WayThere.{Ready, column, above, rows-give, rows-small, luma-small, blue-ready, red-ready, gives-words}
+use Rattle.systems.specs.Systems.{scale, kr, kb}
+use Rattle.systems.proofs.Scales.{scale-range}
+use Rattle.matrix.specs.Rows.{Small, triple, dotted, colourDifference}
+use Rattle.matrix.specs.Triples.{weighted, whole}
+use Rattle.matrix.proofs.EncodingRows.{column, above, rows-give, rows-small, luma-small, above-small, difference-is}
+use Rattle.matrix.proofs.Weights.{row-of, weights-between}
+use Rattle.matrix.proofs.Nominal.{WordsOf, words-of, words-are}
 use Rattle.matrix.proofs.words_by.Statement.{statement}
 use Rattle.matrix.proofs.words_by.Tie as tie
 
@@ -25,52 +29,38 @@ module _ (s : tie.Start) where
   abbrev codes : Codes
   codes = triple (s .args .t3)
 
+  abbrev scaled : scale (s .args .y) ≤ 16
+  scaled = scale-range (s .args .y) .1
+
   abbrev multiplied : List ℤ
   multiplied = toZ w64 (codes .r) ∷ toZ w64 (codes .g) ∷ toZ w64 (codes .b) ∷ []
 
   column-read : multiplied ≡ column codes
   column-read =
-      let n = s .pre .1 in
-      λ i. toZ-pos w64 (codes .r) (omega (arith, n)) i ∷ toZ-pos w64 (codes .g) (omega (arith, n)) i ∷ toZ-pos w64 (codes .b) (omega (arith, n)) i ∷ []
+      let n = s .pre in
+      λ i. toZ-pos w64 (codes .r) (omega (arith, n, scaled)) i ∷ toZ-pos w64 (codes .g) (omega (arith, n, scaled)) i ∷ toZ-pos w64 (codes .b) (omega (arith, n, scaled)) i ∷ []
 
   luma : weighted (s .args .x) codes ≤ 10000 * 3760
-  luma = luma-small (s .args .s) codes (s .pre .0) (s .pre .1) (s .args .x)
+  luma = luma-small (scale (s .args .y)) codes scaled (s .pre) (s .args .x)
 
-  blue : Ready (above (s .args .x) codes (codes .b)) (10000 - kb (s .args .x)) (s .args .s)
-  blue = blue-ready (s .args .s) codes (s .pre .0) (s .pre .1) (s .args .x)
+  words : WordsOf (s .args .x) (scale (s .args .y)) codes
+  words = words-of (s .args .x) (scale (s .args .y)) codes (s .pre)
 
-  red : Ready (above (s .args .x) codes (codes .r)) (10000 - kr (s .args .x)) (s .args .s)
-  red = red-ready (s .args .s) codes (s .pre .0) (s .pre .1) (s .args .x)
-
--- ---- what is read
--- an i64 holds d, which is z
-abbrev Reads : ℤ → ℤ → Type 0
-Reads d z = SFits w64 d × (toZ w64 (ofZ w64 d) ≡ z)
-
--- what a weight leaves of 10000
-abbrev Left : ℤ → ℕ → Type 0
-Left w k = Reads (pos 10000 -ℤ toZ w64 (ofZ w64 w)) (pos (10000 - k))
-
-left : (c : tie.After-weights) → Left (c .weights .result .kb) (kb (c .before .args .x)) × Left (c .weights .result .kr) (kr (c .before .args .x))
-left c = elim (row-of (c .before .args .x) (c .weights .result) (c .weights .ensures)) [
-  | inl e ↦ rw (e .0, e .1) ((record { sfits = lit< tt }, refl), (record { sfits = lit< tt }, refl))
-  | inr e ↦ rw (e .0, e .1) ((record { sfits = lit< tt }, refl), (record { sfits = lit< tt }, refl))
-]
-
+-- ---- what the rows come to
 small : (c : tie.After-encoding) →
     let t = multiplied (c .before .before) in
     let rows = c .encoding .result in
     Small (getD rows 0 []) t × Small (getD rows 1 []) t × Small (getD rows 2 []) t
 small c =
     let s = c .before .before in
-    rw (c .encoding .ensures, column-read s) (rows-small (s .args .s) (codes s) (s .pre .0) (s .pre .1) (s .args .x))
+    rw (c .encoding .ensures, column-read s) (rows-small (scale (s .args .y)) (codes s) (scaled s) (s .pre) (s .args .x))
 
 dots : (c : tie.After-encoding) →
     let s = c .before .before in
     let rows = c .encoding .result in
     (dotted (getD rows 0 []) (multiplied s) ≡ pos (weighted (s .args .x) (codes s)))
-    × (dotted (getD rows 1 []) (multiplied s) ≡ pos (10000 * codes s .b))
-    × (dotted (getD rows 2 []) (multiplied s) ≡ pos (10000 * codes s .r))
+    × (dotted (getD rows 1 []) (multiplied s) ≡ above (s .args .x) (codes s) (codes s .b))
+    × (dotted (getD rows 2 []) (multiplied s) ≡ above (s .args .x) (codes s) (codes s .r))
 dots c =
     let s = c .before .before in
     let given = rows-give (s .args .x) (codes s) in (
@@ -79,27 +69,43 @@ dots c =
       (λ i. dotted (getD (c .encoding .ensures i) 2 []) (column-read s i)) ∙ given .2,
     )
 
-luma-read : (c : tie.After-dot) → let s = c .before .before .before .before in toZ w64 (ofZ w64 (c .dot .result)) ≡ pos (weighted (s .args .x) (codes s))
-luma-read c = toZ-ofZ w64 (c .dot .result) (sfits-of (c .dot .ok)) ∙ c .dot .ensures ∙ dots (c .before .before) .0
+luma-read : (c : tie.After-dot) → let s = c .before .before .before .before .before in toZ w64 (ofZ w64 (c .dot .result)) ≡ pos (weighted (s .args .x) (codes s))
+luma-read c = toZ-ofZ w64 (c .dot .result) (sfits-of (c .dot .ok)) ∙ c .dot .ensures ∙ dots (c .before .before .before) .0
 
-differs : (l d : ℤ) (a b : ℕ) → l ≡ pos a → d ≡ pos b → natAbs (pos a -ℤ pos b) ≤ 2 ^ 25 → Reads (l -ℤ d) (pos a -ℤ pos b)
-differs l d a b p q h = rw (p, q) (fits-i64 (pos a -ℤ pos b) (omega arith), reads-back (pos a -ℤ pos b) (omega arith))
+blue-read : (c : tie.After-dot2) → let s = c .before .before .before .before .before .before .before .before in toZ w64 (ofZ w64 (c .dot2 .result)) ≡ above (s .args .x) (codes s) (codes s .b)
+blue-read c = toZ-ofZ w64 (c .dot2 .result) (sfits-of (c .dot2 .ok)) ∙ c .dot2 .ensures ∙ dots (c .before .before .before .before .before .before) .1
 
-above-blue : (c : tie.After-dot2) →
-    let luma = c .before .before .before in
-    let s = luma .before .before .before .before in
-    Reads (toZ w64 (ofZ w64 (luma .dot .result)) -ℤ toZ w64 (ofZ w64 (c .dot2 .result))) (above (s .args .x) (codes s) (codes s .b))
-above-blue c =
-    let luma = c .before .before .before in
-    differs _ _ _ _ (luma-read luma) (toZ-ofZ w64 (c .dot2 .result) (sfits-of (c .dot2 .ok)) ∙ c .dot2 .ensures ∙ dots (luma .before .before) .1) (blue (luma .before .before .before .before) .3)
+red-read : (c : tie.After-dot3) → let s = c .before .before .before .before .before .before .before .before .before .before .before .before in toZ w64 (ofZ w64 (c .dot3 .result)) ≡ above (s .args .x) (codes s) (codes s .r)
+red-read c = toZ-ofZ w64 (c .dot3 .result) (sfits-of (c .dot3 .ok)) ∙ c .dot3 .ensures ∙ dots (c .before .before .before .before .before .before .before .before .before .before) .2
 
-above-red : (c : tie.After-dot3) →
-    let luma = c .before .before .before .before .before .before .before .before in
-    let s = luma .before .before .before .before in
-    Reads (toZ w64 (ofZ w64 (luma .dot .result)) -ℤ toZ w64 (ofZ w64 (c .dot3 .result))) (above (s .args .x) (codes s) (codes s .r))
-above-red c =
-    let luma = c .before .before .before .before .before .before .before .before in
-    differs _ _ _ _ (luma-read luma) (toZ-ofZ w64 (c .dot3 .result) (sfits-of (c .dot3 .ok)) ∙ c .dot3 .ensures ∙ dots (luma .before .before) .2) (red (luma .before .before .before .before) .3)
+weights-read : (c : tie.After-weights) → (toZ w64 (ofZ w64 (c .weights .result .kb)) ≡ pos (kb (c .before .args .x))) × (toZ w64 (ofZ w64 (c .weights .result .kr)) ≡ pos (kr (c .before .args .x)))
+weights-read c = elim (row-of (c .before .args .x) (c .weights .result) (c .weights .ensures)) [
+  | inl e ↦ rw (e .0, e .1) (refl, refl)
+  | inr e ↦ rw (e .0, e .1) (refl, refl)
+]
+
+luma-is : (s : tie.Start) → INT (weighted (s .args .x) (codes s)) 10000 ≡ words s .y .value
+luma-is s = ap whole (sym (rounded-whole (weighted (s .args .x) (codes s)) 10000) ∙ words s .y .is)
+
+cb-read : (c : tie.After-colour-difference) → let s = c .before .before .before .before .before .before .before .before .before .before in toZ w64 (ofZ w64 (c .colour-difference .result)) ≡ pos (words s .cb .value)
+cb-read c =
+    let d = c .before .before in
+    let m = d .before .before .before .before .before in
+    let w = m .before .before in
+    let s = w .before in
+    toZ-ofZ w64 (c .colour-difference .result) (sfits-of (c .colour-difference .ok)) ∙ c .colour-difference .ensures
+    ∙ (λ i. rounded (colourDifference (blue-read d i) (natAbs (weights-read w .0 i)) (m .middle .ensures i)))
+    ∙ difference-is (s .args .x) (codes s) (128 * scale (s .args .y)) (kb (s .args .x)) (codes s .b) ∙ words s .cb .is
+
+cr-read : (c : tie.After-colour-difference2) → let s = c .before .before .before .before .before .before .before .before .before .before .before .before .before .before in toZ w64 (ofZ w64 (c .colour-difference2 .result)) ≡ pos (words s .cr .value)
+cr-read c =
+    let d = c .before .before in
+    let m = d .before .before .before .before .before .before .before .before .before in
+    let w = m .before .before in
+    let s = w .before in
+    toZ-ofZ w64 (c .colour-difference2 .result) (sfits-of (c .colour-difference2 .ok)) ∙ c .colour-difference2 .ensures
+    ∙ (λ i. rounded (colourDifference (red-read d i) (natAbs (weights-read w .1 i)) (m .middle .ensures i)))
+    ∙ difference-is (s .args .x) (codes s) (128 * scale (s .args .y)) (kr (s .args .x)) (codes s .r) ∙ words s .cr .is
 
 weights-requires : tie.Need-weights-requires
 weights-requires c κs = search needs
@@ -107,60 +113,64 @@ weights-requires c κs = search needs
 encoding-requires : tie.Need-encoding-requires
 encoding-requires c κs = search needs
 
+middle-requires : tie.Need-middle-requires
+middle-requires c κs = search needs
+
+array-read-int-of : tie.Need-array-read-int-of
+array-read-int-of c = search needs
+
+cast-int-of : tie.Need-cast-int-of
+cast-int-of c = search needs
+
 array-read-colour-difference : tie.Need-array-read-colour-difference
 array-read-colour-difference c = search needs
 
 cast-colour-difference : tie.Need-cast-colour-difference
 cast-colour-difference c = search needs
 
-array-read-colour-difference-2 : tie.Need-array-read-colour-difference-2
-array-read-colour-difference-2 c = search needs
+array-read-t20 : tie.Need-array-read-t20
+array-read-t20 c = search needs
 
-cast-colour-difference-2 : tie.Need-cast-colour-difference-2
-cast-colour-difference-2 c = search needs
-
-array-read-colour-difference-3 : tie.Need-array-read-colour-difference-3
-array-read-colour-difference-3 c = search needs
-
-cast-colour-difference-3 : tie.Need-cast-colour-difference-3
-cast-colour-difference-3 c = search needs
+cast-t21 : tie.Need-cast-t21
+cast-t21 c = search needs
 
 array-copy-out-dot : tie.Need-array-copy-out-dot
 array-copy-out-dot c = search needs
 
 dot-requires : tie.Need-dot-requires
-dot-requires c κs = small (c .before) .0
-
-cast-int-of : tie.Need-cast-int-of
-cast-int-of c = rw (luma-read c) (tt, record { fits = omega (arith, luma (c .before .before .before .before)) })
+dot-requires c κs = small (c .before .before) .0
 
 cast-int-of-2 : tie.Need-cast-int-of-2
-cast-int-of-2 c = search needs
+cast-int-of-2 c = rw (luma-read c) (tt, record { fits = omega (arith, luma (c .before .before .before .before .before)) })
+
+cast-int-of-3 : tie.Need-cast-int-of-3
+cast-int-of-3 c = search needs
 
 int-of-requires : tie.Need-int-of-requires
-int-of-requires c κs = rw (luma-read c) (lit< tt, refl, omega (arith, luma (c .before .before .before .before)))
+int-of-requires c κs = rw (luma-read c) (lit< tt, refl, omega (arith, luma (c .before .before .before .before .before)))
 
 cast-t28 : tie.Need-cast-t28
 unfolding INT
-cast-t28 c = rw (c .int-of .ensures, luma-read (c .before)) record { fits = omega (arith, luma (c .before .before .before .before .before)) }
+cast-t28 c = rw (c .int-of .ensures, luma-read (c .before)) record { fits = omega (arith, luma (c .before .before .before .before .before .before)) }
 
 array-copy-out-dot-2 : tie.Need-array-copy-out-dot-2
 array-copy-out-dot-2 c = search needs
 
 dot-requires-2 : tie.Need-dot-requires-2
-dot-requires-2 c κs = small (c .before .before .before .before) .1
-
-sub-colour-difference : tie.Need-sub-colour-difference
-sub-colour-difference c = above-blue c .0
-
-sub-colour-difference-2 : tie.Need-sub-colour-difference-2
-sub-colour-difference-2 c = left (c .before .before .before .before .before .before .before .before) .0 .0
+dot-requires-2 c κs = small (c .before .before .before .before .before) .1
 
 colour-difference-requires : tie.Need-colour-difference-requires
 colour-difference-requires c κs =
-    let d = c .before .before in
-    let w = d .before .before .before .before .before .before in
-    rw (left w .0 .1, above-blue d .1) (blue (w .before))
+    let d = c .before in
+    let m = d .before .before .before .before .before in
+    let w = m .before .before in
+    let s = w .before in
+    let k = weights-between (s .args .x) in
+    rw (weights-read w .0, blue-read d, m .middle .ensures)
+    (is-positive _ (omega (arith, k .0 .0)), k .0 .0, k .0 .1, omega (arith, scaled s), above-small (scale (s .args .y)) (codes s) (scaled s) (s .pre) (s .args .x) (codes s .b) (s .pre .b-high))
+
+cast-t32 : tie.Need-cast-t32
+cast-t32 c = let s = c .before .before .before .before .before .before .before .before .before .before in rw (cb-read c) (tt, record { fits = omega (arith, words s .cb .at-most, scaled s) })
 
 array-copy-out-dot-3 : tie.Need-array-copy-out-dot-3
 array-copy-out-dot-3 c = search needs
@@ -168,28 +178,26 @@ array-copy-out-dot-3 c = search needs
 dot-requires-3 : tie.Need-dot-requires-3
 dot-requires-3 c κs = small (c .before .before .before .before .before .before .before .before .before) .2
 
-sub-colour-difference-3 : tie.Need-sub-colour-difference-3
-sub-colour-difference-3 c = above-red c .0
-
-sub-colour-difference-4 : tie.Need-sub-colour-difference-4
-sub-colour-difference-4 c = left (c .before .before .before .before .before .before .before .before .before .before .before .before .before) .1 .0
-
 colour-difference-requires-2 : tie.Need-colour-difference-requires-2
 colour-difference-requires-2 c κs =
-    let d = c .before .before in
-    let w = d .before .before .before .before .before .before .before .before .before .before .before in
-    rw (left w .1 .1, above-red d .1) (red (w .before))
+    let d = c .before in
+    let m = d .before .before .before .before .before .before .before .before .before in
+    let w = m .before .before in
+    let s = w .before in
+    let k = weights-between (s .args .x) in
+    rw (weights-read w .1, red-read d, m .middle .ensures)
+    (is-positive _ (omega (arith, k .1 .0)), k .1 .0, k .1 .1, omega (arith, scaled s), above-small (scale (s .args .y)) (codes s) (scaled s) (s .pre) (s .args .x) (codes s .r) (s .pre .r-high))
+
+cast-t38 : tie.Need-cast-t38
+cast-t38 c = let s = c .before .before .before .before .before .before .before .before .before .before .before .before .before .before in rw (cr-read c) (tt, record { fits = omega (arith, words s .cr .at-most, scaled s) })
 
 returns : tie.Need-returns
 returns c =
-    let r = c .before .before .before in
-    let cb = r .before .before in
-    let b = cb .before .before .before in
-    let y = b .before .before in
-    let w = y .before .before .before .before in
-    let s = w .before in
-    rw (y .int-of .ensures, cb .colour-difference .ensures, c .colour-difference2 .ensures, left w .0 .1, left w .1 .1, above-blue b .1, above-red r .1, luma-read (y .before))
-    (gives-words (s .args .x) (s .args .s) (codes s))
+    let b = c .before .before .before .before in
+    let y = b .before .before .before .before in
+    let s = y .before .before .before .before .before .before in
+    rw (y .int-of .ensures, luma-read (y .before), cb-read b, cr-read c)
+    ((λ i. record { y = luma-is s i; cb = words s .cb .value; cr = words s .cr .value }) ∙ sym (words-are (s .args .x) (scale (s .args .y)) (codes s) (words s)))
 
 pub words-by-spec : {M : Type 1} → statement M
 words-by-spec =
@@ -197,26 +205,25 @@ words-by-spec =
     (tie.spec
     weights-requires
     encoding-requires
+    middle-requires
+    array-read-int-of
+    cast-int-of
     array-read-colour-difference
     cast-colour-difference
-    array-read-colour-difference-2
-    cast-colour-difference-2
-    array-read-colour-difference-3
-    cast-colour-difference-3
+    array-read-t20
+    cast-t21
     array-copy-out-dot
     dot-requires
-    cast-int-of
     cast-int-of-2
+    cast-int-of-3
     int-of-requires
     cast-t28
     array-copy-out-dot-2
     dot-requires-2
-    sub-colour-difference
-    sub-colour-difference-2
     colour-difference-requires
+    cast-t32
     array-copy-out-dot-3
     dot-requires-3
-    sub-colour-difference-3
-    sub-colour-difference-4
     colour-difference-requires-2
+    cast-t38
     returns)

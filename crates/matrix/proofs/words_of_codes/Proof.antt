@@ -2,7 +2,6 @@ use mathlib.Core.Path.{_≡_, _∙_, sym}
 use mathlib.Core.Bool.{true}
 use borrow.Author.Needs.{needs}
 use Rattle.systems.specs.Systems.{nominal, allWithin}
-use Rattle.systems.proofs.Scales.{scale-range}
 use Rattle.matrix.proofs.Tested.{nominal-codes}
 use Rattle.matrix.proofs.words_of_codes.Statement.{statement}
 use Rattle.matrix.proofs.words_of_codes.Tie as tie
@@ -33,27 +32,20 @@ cast-t11 c = search needs
 cast-t12 : tie.Need-cast-t12
 cast-t12 c = search needs
 
-matrix-requires : tie.Need-matrix-requires
-matrix-requires c κs = search needs
-
-scale-requires : tie.Need-scale-requires
-scale-requires c κs = search needs
-
 words-in-requires : tie.Need-words-in-requires
 words-in-requires c κs =
-    let taken = c .before .before .before .before .before in
+    let taken = c .before .before .before in
     let named = taken .before .before .before .before in
-    let y = named .y .given .0 .0 in
-    rw (c .scale .ensures) (scale-range y .1, nominal-codes y (named .before .before .before .args .codes) (passed taken))
+    nominal-codes (named .y .given .0 .0) (named .before .before .before .args .codes) (passed taken)
 
 enum-told : tie.Need-enum-told
 enum-told c = search needs
 
 returns : tie.Need-returns
 returns c =
-    let taken = c .before .before .before .before .before .before in
+    let taken = c .before .before .before .before in
     let named = taken .before .before .before .before in
-    rw (sym (named .before .before .from-number .ensures), named .y .given .1, passed taken, c .words-in .ensures, c .before .scale .ensures, c .before .before .matrix .ensures)
+    rw (sym (named .before .before .from-number .ensures), named .y .given .1, passed taken, c .words-in .ensures)
 
 returns-2 : tie.Need-returns-2
 returns-2 c =
@@ -74,8 +66,6 @@ words-of-codes-spec =
     cast-t10
     cast-t11
     cast-t12
-    matrix-requires
-    scale-requires
     words-in-requires
     enum-told
     returns

@@ -23,20 +23,14 @@ put-field-requires c κs = search needs
 put-field-requires-2 : tie.Need-put-field-requires-2
 put-field-requires-2 c κs = search needs
 
-mul-put-field : tie.Need-mul-put-field
-mul-put-field c = search needs
-
-add-put-field : tie.Need-add-put-field
-add-put-field c = search needs
+cb-count-requires : tie.Need-cb-count-requires
+cb-count-requires c κs = search needs
 
 put-field-requires-3 : tie.Need-put-field-requires-3
 put-field-requires-3 c κs = search needs
 
-mul-put-field-2 : tie.Need-mul-put-field-2
-mul-put-field-2 c = search needs
-
-add-put-field-2 : tie.Need-add-put-field-2
-add-put-field-2 c = search needs
+cr-count-requires : tie.Need-cr-count-requires
+cr-count-requires c κs = search needs
 
 put-field-requires-4 : tie.Need-put-field-requires-4
 put-field-requires-4 c κs = search needs
@@ -46,13 +40,18 @@ same-length c = search needs
 
 returns : tie.Need-returns
 returns c =
-    let a = c .before .before .before .before .before .before .before .before .before .before .before .before .before .before .before .before .before .before .before .before .before .before .args in
+    let cr = c .before .before in
+    let cb = cr .before .before .before .before .before in
+    let luma = cb .before .before .before .before .before in
+    let number = luma .before .before .before .before in
+    let system = number .before .before .before .before in
+    let named = system .before .before in
     head-put _ _ _ _ _ _ _ _ _
-    (c .before .before .before .before .before .before .before .before .before .before .before .before .before .before .before .before .before .before .put-byte .ensures ∙ ap (λ (x : ℕ). set (a .out .now) 0 x) (c .before .before .before .before .before .before .before .before .before .before .before .before .before .before .before .before .before .before .before .before .number .ensures))
-    (c .before .before .before .before .before .before .before .before .before .before .before .before .before .before .put-field .ensures)
-    (c .before .before .before .before .before .before .before .before .before .before .put-field2 .ensures)
-    (c .before .before .before .before .before .before .put-field3 .ensures)
-    (c .before .before .put-field4 .ensures)
+    (system .put-byte .ensures ∙ ap (λ (x : ℕ). set (named .before .before .args .out .now) 0 x) (named .number .ensures))
+    (number .put-field .ensures)
+    (luma .put-field2 .ensures)
+    (rw (cb .before .before .cb-count .ensures) at (cb .put-field3 .ensures))
+    (rw (cr .before .before .cr-count .ensures) at (cr .put-field4 .ensures))
 
 pub put-head-spec : {M : Type 1} → statement M
 put-head-spec =
@@ -63,11 +62,9 @@ put-head-spec =
     put-byte-requires
     put-field-requires
     put-field-requires-2
-    mul-put-field
-    add-put-field
+    cb-count-requires
     put-field-requires-3
-    mul-put-field-2
-    add-put-field-2
+    cr-count-requires
     put-field-requires-4
     same-length
     returns)

@@ -12,7 +12,7 @@ sample-codes-requires c κs = search needs
 words-709-requires : tie.Need-words-709-requires
 words-709-requires c κs =
     let start = c .before .before .before .before .before in
-    sample-nominal (start .args .y) (start .args .lights .now) (start .args .i) (start .pre .1) (c .sample-codes .ensures)
+    sample-nominal (start .args .y) (start .args .lights .now) (start .args .i) (c .sample-codes .ensures)
 
 put-words-requires : tie.Need-put-words-requires
 put-words-requires c κs = search needs
@@ -27,7 +27,7 @@ returns c =
     let a = start .args in
     c .before .before .put-words .ensures
     ∙ ap (λ (x : Words). worded (a .width) (a .i) x (a .out .now))
-    (sample-words (a .y) (a .lights .now) (a .i) (start .pre .0) (start .pre .1) (made .before .sample-codes .ensures) (made .words-709 .ensures))
+    (sample-words (a .y) (a .lights .now) (a .i) (start .pre .0) (made .before .sample-codes .ensures) (made .words-709 .ensures))
 
 pub put-sample-709-spec : {M : Type 1} → statement M
 put-sample-709-spec =

@@ -3,41 +3,20 @@ use borrow.Author.Needs.{needs}
 use Rattle.row.proofs.put_words.Statement.{statement}
 use Rattle.row.proofs.put_words.Tie as tie
 
-mul-put-field : tie.Need-mul-put-field
-mul-put-field c = search needs
-
-add-put-field : tie.Need-add-put-field
-add-put-field c = search needs
+luma-word-requires : tie.Need-luma-word-requires
+luma-word-requires c κs = search needs
 
 put-field-requires : tie.Need-put-field-requires
 put-field-requires c κs = search needs
 
-mul-put-field-2 : tie.Need-mul-put-field-2
-mul-put-field-2 c = search needs
-
-add-put-field-2 : tie.Need-add-put-field-2
-add-put-field-2 c = search needs
-
-mul-put-field-3 : tie.Need-mul-put-field-3
-mul-put-field-3 c = search needs
-
-add-put-field-3 : tie.Need-add-put-field-3
-add-put-field-3 c = search needs
+cb-word-requires : tie.Need-cb-word-requires
+cb-word-requires c κs = search needs
 
 put-field-requires-2 : tie.Need-put-field-requires-2
 put-field-requires-2 c κs = search needs
 
-mul-put-field-4 : tie.Need-mul-put-field-4
-mul-put-field-4 c = search needs
-
-add-put-field-4 : tie.Need-add-put-field-4
-add-put-field-4 c = search needs
-
-mul-put-field-5 : tie.Need-mul-put-field-5
-mul-put-field-5 c = search needs
-
-add-put-field-5 : tie.Need-add-put-field-5
-add-put-field-5 c = search needs
+cr-word-requires : tie.Need-cr-word-requires
+cr-word-requires c κs = search needs
 
 put-field-requires-3 : tie.Need-put-field-requires-3
 put-field-requires-3 c κs = search needs
@@ -47,27 +26,20 @@ same-length c = search needs
 
 returns : tie.Need-returns
 returns c =
-    words-put _ _ _ _ _ _ _
-    (c .before .before .before .before .before .before .before .before .before .before .put-field .ensures)
-    (c .before .before .before .before .before .before .put-field2 .ensures)
-    (c .before .before .put-field3 .ensures)
+    let cr = c .before .before in
+    let cb = cr .before .before .before .before .before in
+    let y = cb .before .before .before .before .before in
+    words-put _ _ _ _ _ _ _ (rw (y .before .before .luma-word .ensures) at (y .put-field .ensures)) (rw (cb .before .before .cb-word .ensures) at (cb .put-field2 .ensures)) (rw (cr .before .before .cr-word .ensures) at (cr .put-field3 .ensures))
 
 pub put-words-spec : {M : Type 1} → statement M
 put-words-spec =
     tie.close
     (tie.spec
-    mul-put-field
-    add-put-field
+    luma-word-requires
     put-field-requires
-    mul-put-field-2
-    add-put-field-2
-    mul-put-field-3
-    add-put-field-3
+    cb-word-requires
     put-field-requires-2
-    mul-put-field-4
-    add-put-field-4
-    mul-put-field-5
-    add-put-field-5
+    cr-word-requires
     put-field-requires-3
     same-length
     returns)

@@ -5,7 +5,6 @@ use Prim.Native.Nat.{_-_, _≤_}
 use native.Mathlib.Omega.{arith}
 use mathlib.Core.Path.{_≡_, ap, _∙_}
 use lib.ListN.{length}
-use Rattle.systems.specs.Systems.{scale}
 use Rattle.row.specs.Row.{sampleWords}
 use Rattle.row.specs.Stores.{stored}
 use Rattle.row.proofs.Samples.{stored-more}
@@ -13,14 +12,11 @@ use Rattle.row.proofs.row_2020.Statement.{statement}
 use Rattle.row.proofs.row_2020.Tie as tie
 
 abbrev Inv-loop : tie.InvT-loop
-Inv-loop y boundaries index shift width lights out₀ s n i₀ out i =
-    (n ≡ width) × (s ≡ scale y) × (i ≤ n) × (length out ≡ length out₀) × (out ≡ stored (sampleWords y lights) width out₀ i)
+Inv-loop y boundaries index shift width lights out₀ n i₀ out i =
+    (n ≡ width) × (i ≤ n) × (length out ≡ length out₀) × (out ≡ stored (sampleWords y lights) width out₀ i)
 
 abbrev μ-loop : tie.MeasureT-loop
-μ-loop y boundaries index shift width lights out₀ s n i₀ out i = n - i
-
-scale-requires : tie.Need-scale-requires Inv-loop μ-loop
-scale-requires c κs = search needs
+μ-loop y boundaries index shift width lights out₀ n i₀ out i = n - i
 
 loop-holds : tie.Need-loop-holds Inv-loop μ-loop
 unfolding stored
@@ -37,16 +33,16 @@ loop-less c = search needs
 
 loop-again : tie.Need-loop-again Inv-loop μ-loop
 loop-again c =
-    (search needs, search needs, search needs, search needs, stored-more _ _ _ _ _ _ (c .before .before .before .before .before .loop .inv .4) (c .before .before .put-sample-2020 .ensures))
+    (search needs, search needs, search needs, stored-more _ _ _ _ _ _ (c .before .before .before .before .before .loop .inv .3) (c .before .before .put-sample-2020 .ensures))
 
 same-length : tie.Need-same-length Inv-loop μ-loop
 same-length c = search needs
 
 returns : tie.Need-returns Inv-loop μ-loop
 returns c =
-    let a = c .before .before .before .before .before .before .before .args in
+    let a = c .before .before .before .before .before .before .args in
     let done : c .before .loop .i ≡ a .width = omega arith in
-    c .before .loop .inv .4 ∙ ap (stored (sampleWords (a .y) (a .lights .now)) (a .width) (a .out .now)) done
+    c .before .loop .inv .3 ∙ ap (stored (sampleWords (a .y) (a .lights .now)) (a .width) (a .out .now)) done
 
 pub row-2020-spec : {M : Type 1} → statement M
 row-2020-spec =
@@ -54,7 +50,6 @@ row-2020-spec =
     (tie.spec
     Inv-loop
     μ-loop
-    scale-requires
     loop-holds
     put-sample-2020-requires
     add-i

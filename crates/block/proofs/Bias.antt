@@ -1,0 +1,108 @@
+-- Components that wait biased in a slice are clipped and counted as they would be without the bias.
+-- Assumes nothing.
+use mathlib.Core.Path.{_≡_, refl, sym, ap, subst, _∙_}
+use mathlib.Core.Bool.{Bool, true, false}
+use mathlib.Core.Logic.{_⊎_, inl, inr}
+use Prim.Native.Nat.{ℕ, suc, _+_, _*_, _-_, _^_, _≤_, _<_}
+use native.Mathlib.Omega.{arith}
+use lib.Dec.{ltb}
+use lib.IntN.{ℤ, pos, negsuc, natAbs, subℕ, _+ℤ_}
+use lib.Signed.{ltZ}
+use mir.Val.{boolByte}
+use borrow.Author.Tests.{ltb-true, ltb-false, lt-ltb, le-ltb}
+use Rattle.exact.proofs.Order.{below-or-not}
+use Rattle.exact.proofs.Difference.{sub-pos, sub-neg, pos-sub, sub-eq}
+use Rattle.systems.specs.declared.Codes.{Codes}
+use Rattle.systems.specs.declared.Matrix.{Matrix}
+use Rattle.systems.specs.declared.Range.{Range}
+use Rattle.matrix.specs.declared.Clipped.{Clipped}
+use Rattle.matrix.specs.declared.Words.{Words}
+use Rattle.matrix.specs.Triples.{whole, clipped, beyond, codesAt}
+use Rattle.matrix.specs.Rows.{TwelveBitWords, unclippedAt}
+use Rattle.matrix.proofs.DecodingRows.{unclipped-small}
+use Rattle.block.specs.Steps.{biased, unbiased, biasedTriple, Clippable, oneOf, atLeast, atMost}
+
+pub biased-is : (z : ℤ) → natAbs z ≤ 2 ^ 14 → (z +ℤ pos 16384 ≡ pos (biased z)) × (biased z ≤ 2 ^ 15)
+biased-is (pos a) h = (refl, omega arith)
+biased-is (negsuc a) h = let e = sub-pos 16384 (suc a) h in (rw e refl, rw e (omega arith))
+
+unbiased-biased : (z : ℤ) → natAbs z ≤ 2 ^ 14 → unbiased (biased z) ≡ z
+unbiased-biased (pos a) h = sub-eq (a + 16384) 16384 a 0 (omega arith) ∙ sym (pos-sub a)
+unbiased-biased (negsuc a) h =
+    let q : 16384 - suc (16384 - suc a) ≡ a = omega arith in
+    ap (λ (z : ℤ). unbiased (whole z)) (sub-pos 16384 (suc a) (omega arith)) ∙ sub-neg (16384 - suc a) 16384 (omega arith) ∙ ap negsuc q
+
+-- ---- the tests of a biased component
+low-test : (v low : ℕ) → ltZ (unbiased v) (pos low) ≡ ltb v (low + 16384)
+low-test v low = go (below-or-not v 16384) (below-or-not v (low + 16384))
+  where
+    go : (v < 16384) ⊎ (16384 ≤ v) → (v < low + 16384) ⊎ (low + 16384 ≤ v) → ltZ (subℕ v 16384) (pos low) ≡ ltb v (low + 16384)
+    go (inl h) (inl k) = rw (sub-neg v 16384 h, lt-ltb v (low + 16384) k) refl
+    go (inl h) (inr k) = absurd (omega arith)
+    go (inr h) (inl k) = rw (sub-pos v 16384 h, lt-ltb v (low + 16384) k) (lt-ltb (v - 16384) low (omega arith))
+    go (inr h) (inr k) = rw (sub-pos v 16384 h, le-ltb v (low + 16384) k) (le-ltb (v - 16384) low (omega arith))
+
+high-test : (v high : ℕ) → ltZ (pos high) (unbiased v) ≡ ltb (high + 16384) v
+high-test v high = go (below-or-not v 16384) (below-or-not (high + 16384) v)
+  where
+    go : (v < 16384) ⊎ (16384 ≤ v) → (high + 16384 < v) ⊎ (v ≤ high + 16384) → ltZ (pos high) (subℕ v 16384) ≡ ltb (high + 16384) v
+    go (inl h) (inl k) = absurd (omega arith)
+    go (inl h) (inr k) = rw (sub-neg v 16384 h, le-ltb (high + 16384) v k) refl
+    go (inr h) (inl k) = rw (sub-pos v 16384 h, lt-ltb (high + 16384) v k) (lt-ltb high (v - 16384) (omega arith))
+    go (inr h) (inr k) = rw (sub-pos v 16384 h, le-ltb (high + 16384) v k) (le-ltb high (v - 16384) (omega arith))
+
+-- clipped and counted by those tests
+module _ (n : Range) (v : ℕ) where
+  clipped-by : (l h : Bool) → ltb v (n .low + 16384) ≡ l → ltb (n .high + 16384) v ≡ h
+      → elim l [ true ↦ n .low | false ↦ elim h [ true ↦ n .high | false ↦ whole (unbiased v) ] ] ≡ clipped n (unbiased v)
+  clipped-by l h p q = sym (λ i. elim ((low-test v (n .low) ∙ p) i) [ true ↦ n .low | false ↦ elim ((high-test v (n .high) ∙ q) i) [ true ↦ n .high | false ↦ whole (unbiased v) ] ])
+
+  -- held between the biased ends and taken down again
+  pub held : Clippable n → let k = atMost (atLeast v (n .low + 16384)) (n .high + 16384) in (16384 ≤ k) × (k - 16384 ≡ clipped n (unbiased v))
+  held c = go (ltb v (n .low + 16384)) (ltb (n .high + 16384) v) refl refl
+    where
+      Held : ℕ → Type 0
+      Held k = (16384 ≤ k) × (k - 16384 ≡ clipped n (unbiased v))
+
+      go : (l h : Bool) → ltb v (n .low + 16384) ≡ l → ltb (n .high + 16384) v ≡ h → Held (atMost (oneOf l (n .low + 16384) v) (n .high + 16384))
+      go true h p q =
+          let low : n .low + 16384 - 16384 ≡ n .low = omega arith in
+          let end = le-ltb (n .high + 16384) (n .low + 16384) (omega (arith, c .in-order)) in
+          subst (λ (b : Bool). Held (oneOf b (n .high + 16384) (n .low + 16384))) (sym end) (omega arith, low ∙ clipped-by true h p q)
+      go false true p q =
+          let high : n .high + 16384 - 16384 ≡ n .high = omega arith in
+          subst (λ (b : Bool). Held (oneOf b (n .high + 16384) v)) (sym q) (omega arith, high ∙ clipped-by false true p q)
+      go false false p q =
+          let above = ltb-false v (n .low + 16384) p in
+          subst (λ (b : Bool). Held (oneOf b (n .high + 16384) v)) (sym q) (omega arith, ap whole (sym (sub-pos v 16384 (omega arith))) ∙ clipped-by false false p q)
+
+  beyond-by : (l h : Bool) → ltb v (n .low + 16384) ≡ l → ltb (n .high + 16384) v ≡ h → elim l [ true ↦ 1 | false ↦ elim h [ true ↦ 1 | false ↦ 0 ] ] ≡ beyond n (unbiased v)
+  beyond-by l h p q = sym (λ i. elim ((low-test v (n .low) ∙ p) i) [ true ↦ 1 | false ↦ elim ((high-test v (n .high) ∙ q) i) [ true ↦ 1 | false ↦ 0 ] ])
+
+  pub counted : Clippable n →
+      let k = boolByte (ltb v (n .low + 16384)) + boolByte (ltb (n .high + 16384) v) in
+      (k ≡ beyond n (unbiased v)) × (k ≤ 1)
+  counted c = go (ltb v (n .low + 16384)) (ltb (n .high + 16384) v) refl refl
+    where
+      go : (l h : Bool) → ltb v (n .low + 16384) ≡ l → ltb (n .high + 16384) v ≡ h → (boolByte l + boolByte h ≡ beyond n (unbiased v)) × (boolByte l + boolByte h ≤ 1)
+      go true true p q = absurd (omega (arith, c .in-order, ltb-true v (n .low + 16384) p, ltb-true (n .high + 16384) v q))
+      go true false p q = (beyond-by true false p q, omega arith)
+      go false true p q = (beyond-by false true p q, omega arith)
+      go false false p q = (beyond-by false false p q, omega arith)
+
+-- ---- of a sample's words
+-- a biased triple clipped to 16s to 235s, and the count of those that were
+abbrev pub fromBiased : ℕ → Codes → Clipped
+fromBiased s v =
+    let n : Range = record { low = 16 * s; high = 235 * s } in
+    record {
+      codes = record { r = clipped n (unbiased (v .r)); g = clipped n (unbiased (v .g)); b = clipped n (unbiased (v .b)) };
+      count = beyond n (unbiased (v .r)) + beyond n (unbiased (v .g)) + beyond n (unbiased (v .b));
+    }
+
+pub codes-from-biased : (x : Matrix) (s : ℕ) (w : Words) → s ≤ 16 → TwelveBitWords w → fromBiased s (biasedTriple (unclippedAt x s w)) ≡ codesAt x s w
+unfolding unclippedAt codesAt
+codes-from-biased x s w S n =
+    let v = unclippedAt x s w in
+    let p = unclipped-small s w S n x in
+    rw (unbiased-biased (v .r) (p .0), unbiased-biased (v .g) (p .1), unbiased-biased (v .b) (p .2)) refl

@@ -1,7 +1,6 @@
 // The calls on lights (document 01, 'Light to code').
 use curve::code_in;
 use systems::Named;
-use systems::Range;
 use systems::Refusal;
 use systems::System;
 use thresholds::EightBits;
@@ -111,7 +110,8 @@ fn span_in(y: System, boundaries: &[u16], d: u16) -> Span
     requires { ⌜ Boundaries y (now boundaries) × (16 * scale y ≤ d) × (d ≤ 235 * scale y) ⌝ }
     ensures { λ r. ⌜ r ≡ span y d ⌝ }
 {
-    let n = (d - Range::BLACK * y.scale()) as usize;
+    let nominal = y.nominal();
+    let n = (d - nominal.low) as usize;
     Span {
         least: least_at(boundaries, n),
         greatest: greatest_at(boundaries, n),

@@ -54,6 +54,11 @@ pub struct Weights {
     pub kb: i64,
 }
 
+// A row's most samples, and a picture's most rows.
+pub const MOST_SAMPLES: u16 = 7680;
+
+pub const MOST_ROWS: u16 = 4320;
+
 // Rows by matrix: Bt709, Bt2020.
 const WEIGHTS: [[i64; 3]; 2] = [[2126, 7152, 722], [2627, 6780, 593]];
 

@@ -14,7 +14,7 @@ use borrow.Author.Tests.{leb-true, leb-false}
 use Rattle.systems.specs.declared.System.{System}
 use Rattle.systems.specs.Systems.{scale}
 use Rattle.curve.specs.Curve.{code}
-use Rattle.curve.specs.Boundaries.{Boundaries, Index, Ready}
+use Rattle.curve.specs.Inner.{Boundaries, Index, Ready}
 use Rattle.curve.proofs.Lights.{codes-rise, code-high}
 
 module _ (y : System) (h : ℕ) (t x : List ℕ) (ready : Ready y h t x) (k : ℕ) (light : k < 65536) where

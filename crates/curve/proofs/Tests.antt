@@ -15,7 +15,7 @@ use Rattle.systems.specs.declared.System.{System}
 use Rattle.systems.specs.declared.System.the-variants.{Bt709Bits10, Bt2020Bits10}
 use Rattle.systems.specs.Systems.{scale}
 use Rattle.curve.specs.Curve.{code}
-use Rattle.curve.specs.Boundaries.{Boundaries, Index, Ready}
+use Rattle.curve.specs.Inner.{Boundaries, Index, Ready}
 use Rattle.curve.proofs.Lights.{reached, code-low, code-high, codes-rise, code-reaches}
 
 -- entry j of the table, t, has the code 16s + j + 1 or more, and the light before it has less

@@ -14,7 +14,7 @@ use Rattle.exact.proofs.Search.{greatest-within, greatest-passes, greatest-abov
 use Rattle.systems.specs.declared.System.{System}
 use Rattle.systems.specs.Systems.{scale}
 use Rattle.curve.specs.Curve.{code, fullLight, leastLight, greatestLight}
-use Rattle.curve.specs.Boundaries.{Boundaries}
+use Rattle.curve.specs.Inner.{Boundaries}
 use Rattle.curve.proofs.Lights.{codes-rise}
 use Rattle.light.proofs.Lit.{Lit, every-code-lit, first-light, last-light}
 

@@ -12,7 +12,7 @@ ghost use Prim.Native.Nat.{_+_, _*_, _≤_};
 ghost use lib.ListN.{length, getD};
 ghost use Rattle.systems.specs.Systems.{scale};
 ghost use Rattle.curve.specs.Curve.{code};
-ghost use Rattle.curve.specs.Boundaries.{Boundaries};
+ghost use Rattle.curve.specs.Inner.{Boundaries};
 ghost use Rattle.light.specs.Light.{codeOfLight, span, spanOfCode, toldCode, toldSpan};
 
 pub enum LightCode {

@@ -13,7 +13,7 @@ ghost use Prim.Native.Nat.{_+_, _*_, _<_, _≤_};
 ghost use lib.ListN.{length, drop, set};
 ghost use Rattle.systems.specs.declared.Matrix.the-variants.{Bt709, Bt2020};
 ghost use Rattle.systems.specs.Systems.{number, matrix, scale};
-ghost use Rattle.curve.specs.Boundaries.{Ready};
+ghost use Rattle.curve.specs.Inner.{Ready};
 ghost use Rattle.matrix.specs.Rows.{triple};
 ghost use Rattle.row.specs.Row.{sampleCodes, sampleWords, rowBlock};
 ghost use Rattle.row.specs.Stores.{RowFits, put, headed, worded, stored};

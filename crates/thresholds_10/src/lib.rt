@@ -3,7 +3,7 @@
 mod table;
 
 ghost use Rattle.systems.specs.declared.System.the-variants.{Bt709Bits10, Bt2020Bits10};
-ghost use Rattle.curve.specs.Boundaries.{Ready};
+ghost use Rattle.curve.specs.Inner.{Ready};
 
 pub struct TenBits {
     pub boundaries: [u16; 876],

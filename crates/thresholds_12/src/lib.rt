@@ -3,7 +3,7 @@
 mod table;
 
 ghost use Rattle.systems.specs.declared.System.the-variants.{Bt2020Bits12};
-ghost use Rattle.curve.specs.Boundaries.{Ready};
+ghost use Rattle.curve.specs.Inner.{Ready};
 
 pub struct TwelveBits {
     pub boundaries: [u16; 3504],

@@ -1,14 +1,14 @@
 -- What holds of the code of a light, over the scale of light u, the scale s, and α and β as a and b of 10000.
 -- Assumes nothing.
-use mathlib.Core.Path.{_≡_, ap, subst⁻¹, _∙_}
+use mathlib.Core.Path.{_≡_, ap, subst⁻¹}
 use mathlib.Core.Bool.{Bool, true, false}
 use mathlib.Core.Logic.{_⊎_, inl, inr, _↔_}
-use Prim.Native.Nat.{ℕ, suc, _+_, _*_, _-_, _^_, _≤_, _<_}
+use Prim.Native.Nat.{ℕ, suc, _+_, _*_, _-_, _≤_, _<_}
 use native.Mathlib.Nat.{le-trans, mul-le-mul-left, mul-le-mul-right, pow-le-pow-left, mul-assoc, add-mul, mul-comm, mul-left-comm, mul-add, mul-one}
 use native.Mathlib.Omega.{arith}
 use lib.Dec.{T, leb, leb→le, le→leb}
 use borrow.Author.Tests.{lt-ltb, le-ltb}
-use Rattle.exact.specs.Whole.{INT, greatest}
+use Rattle.exact.specs.Whole.{greatest}
 use Rattle.exact.proofs.Order.{below-or-not}
 use Rattle.exact.proofs.Rounding.{int-at-least, int-rises}
 use Rattle.exact.proofs.Search.{greatest-within, greatest-passes, greatest-above}

@@ -1,6 +1,6 @@
 -- A table and its index that are ready give each light's code by two compares.
 -- Assumes nothing.
-use mathlib.Core.Path.{_≡_, refl, sym}
+use mathlib.Core.Path.{_≡_, refl}
 use mathlib.Core.Bool.{Bool, true, false}
 use mathlib.Core.List.{List}
 use Prim.Native.Nat.{ℕ, suc, _+_, _*_, _-_, _/_, _^_, _≤_, _<_}
@@ -14,8 +14,8 @@ use borrow.Author.Tests.{leb-true, leb-false}
 use Rattle.systems.specs.declared.System.{System}
 use Rattle.systems.specs.Systems.{scale}
 use Rattle.curve.specs.Curve.{code}
-use Rattle.curve.specs.Boundaries.{Boundaries, Index, Ready}
-use Rattle.curve.proofs.Lights.{codes-rise, code-high}
+use Rattle.curve.specs.Inner.{Ready}
+use Rattle.curve.proofs.Lights.{codes-rise}
 
 module _ (y : System) (h : ℕ) (t x : List ℕ) (ready : Ready y h t x) (k : ℕ) (light : k < 65536) where
   -- the light's bucket, and what the index has there

@@ -1,10 +1,10 @@
 -- What the tests of a table's and an index's entries show, by the curve's rule at the entry and at its neighbour.
 -- Assumes nothing.
 use mathlib.Core.Path.{_≡_}
-use mathlib.Core.Bool.{Bool, true, false, not, _&&_, _||_}
+use mathlib.Core.Bool.{Bool, not, _&&_, _||_}
 use mathlib.Core.Logic.{_⊎_, inl, inr}
 use mathlib.Core.List.{List}
-use Prim.Native.Nat.{ℕ, zero, suc, _+_, _*_, _-_, _^_, _≤_, _<_}
+use Prim.Native.Nat.{ℕ, suc, _+_, _*_, _-_, _^_, _≤_, _<_}
 use native.Mathlib.Omega.{arith}
 use lib.Dec.{T, T-not, leb, ltb, eqb, leb→le, ltb→lt, eqb→eq}
 use lib.ListN.{length, getD}
@@ -15,7 +15,7 @@ use Rattle.systems.specs.declared.System.{System}
 use Rattle.systems.specs.declared.System.the-variants.{Bt709Bits10, Bt2020Bits10}
 use Rattle.systems.specs.Systems.{scale}
 use Rattle.curve.specs.Curve.{code}
-use Rattle.curve.specs.Boundaries.{Boundaries, Index, Ready}
+use Rattle.curve.specs.Inner.{Boundaries, Index, Ready}
 use Rattle.curve.proofs.Lights.{reached, code-low, code-high, codes-rise, code-reaches}
 
 -- entry j of the table, t, has the code 16s + j + 1 or more, and the light before it has less

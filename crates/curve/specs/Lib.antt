@@ -1,2 +1,2 @@
 pub mod Curve
-pub mod Boundaries
+pub mod Inner

@@ -1,9 +1,11 @@
 // Light to code by a table of boundary lights (document 01, 'Light to code'): one lookup for all depths and all callers.
-use systems::Range;
 use systems::System;
 ghost use mathlib.Core.Path.{_≡_};
+ghost use Prim.Native.Nat.{_≤_};
+ghost use lib.Dec.{leb};
+ghost use mir.Val.{boolByte};
 ghost use Rattle.curve.specs.Curve.{code};
-ghost use Rattle.curve.specs.Boundaries.{Ready};
+ghost use Rattle.curve.specs.Inner.{Ready};
 
 // The code of a light. The index leads by the light's high bits to the first of two boundaries that can lie below it.
 // Returned as wide as a register: a u16 would be cut here and widened again where the matrix takes it.
@@ -18,8 +20,13 @@ pub fn code_in<'a>(
     ensures { λ r. ⌜ r ≡ code y light ⌝ }
 {
     let n = index[(light >> shift) as usize] as usize;
-    n
-        + (boundaries[n] <= light) as usize
-        + (boundaries[n + 1] <= light) as usize
-        + (Range::BLACK * y.scale()) as usize
+    let nominal = y.nominal();
+    nominal.low as usize + n + passed(boundaries[n], light) + passed(boundaries[n + 1], light)
+}
+
+// 1 where the light is at the boundary or beyond it, else 0.
+fn passed(boundary: u16, light: u16) -> usize
+    ensures { λ r. ⌜ (r ≡ boolByte (leb boundary light)) × (r ≤ 1) ⌝ }
+{
+    (boundary <= light) as usize
 }

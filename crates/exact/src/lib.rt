@@ -1,7 +1,7 @@
 // Exact whole-number arithmetic: the rounding of document 01, 'Four systems', and the definitions and laws that every
 // stage above shares.
 ghost use mathlib.Core.Path.{_≡_};
-ghost use Prim.Native.Nat.{_+_, _*_, _%_, _^_, _<_};
+ghost use Prim.Native.Nat.{_+_, _%_, _^_, _<_};
 ghost use Rattle.exact.specs.Whole.{INT};
 
 // INT of top/bottom where bottom is even: half of it is whole, and nothing is below 0.

@@ -4,7 +4,7 @@ use mathlib.Core.Path.{_≡_, refl, subst}
 use mathlib.Core.Bool.{Bool, true, false, not, _&&_}
 use mathlib.Core.Logic.{_⊎_, inl, inr}
 use Prim.Native.Nat.{ℕ, zero, suc, _+_, _*_, _-_, _^_, _≤_, _<_}
-use native.Mathlib.Nat.{le-refl, not-suc-le-zero, le-of-suc-le-suc}
+use native.Mathlib.Nat.{le-refl, le-of-suc-le-suc}
 use native.Mathlib.Omega.{arith}
 use lib.Dec.{T, T-not, ltb, ltb→lt}
 use lib.Ieee.Fits.{and-l, and-r}
@@ -13,10 +13,10 @@ use Rattle.exact.proofs.Boolean.{all-three}
 use Rattle.exact.proofs.Order.{below-or-not}
 use Rattle.systems.specs.declared.System.{System}
 use Rattle.systems.specs.declared.System.the-variants.{Bt709Bits8, Bt709Bits10, Bt2020Bits10, Bt2020Bits12}
-use Rattle.systems.specs.Systems.{scale, transfer}
+use Rattle.systems.specs.Systems.{scale}
 use Rattle.curve.specs.Curve.{dark, linear, reaches, codeOf, code, fullLight}
 use Rattle.curve.proofs.Curve.{onLine, atLeast}
-use Rattle.curve.proofs.Lights.{reached, code-low, code-high, codes-rise, code-reaches}
+use Rattle.curve.proofs.Lights.{reached, code-high, codes-rise, code-reaches}
 
 -- a light of the code 16s + d, sought bit by bit past the greatest that does not reach it
 abbrev seek : (ℕ → ℕ → Bool) → ℕ → ℕ → ℕ → ℕ

@@ -10,11 +10,11 @@ use native.Mathlib.Omega.{arith}
 use lib.Dec.{T, eqb, eqb→eq, eqb-refl}
 use lib.ListN.{length, getD, List·getD-eq-default}
 use Rattle.exact.proofs.Order.{below-or-not}
-use Rattle.exact.proofs.Search.{greatest-within, greatest-passes, greatest-above, least-within, least-passes, least-below}
+use Rattle.exact.proofs.Search.{greatest-within, greatest-passes, greatest-above, least-passes, least-below}
 use Rattle.systems.specs.declared.System.{System}
 use Rattle.systems.specs.Systems.{scale}
 use Rattle.curve.specs.Curve.{code, fullLight, leastLight, greatestLight}
-use Rattle.curve.specs.Boundaries.{Boundaries}
+use Rattle.curve.specs.Inner.{Boundaries}
 use Rattle.curve.proofs.Lights.{codes-rise}
 use Rattle.light.proofs.Lit.{Lit, every-code-lit, first-light, last-light}
 

@@ -1,19 +1,18 @@
 // The calls on lights (document 01, 'Light to code').
 use curve::code_in;
 use systems::Named;
-use systems::Range;
 use systems::Refusal;
 use systems::System;
-use thresholds::EightBits;
-use thresholds::TenBits;
-use thresholds::TwelveBits;
+use thresholds_8::EightBits;
+use thresholds_10::TenBits;
+use thresholds_12::TwelveBits;
 ghost use mathlib.Core.Path.{_≡_};
 ghost use mathlib.Core.List.{_∷_};
 ghost use Prim.Native.Nat.{_+_, _*_, _≤_};
 ghost use lib.ListN.{length, getD};
 ghost use Rattle.systems.specs.Systems.{scale};
 ghost use Rattle.curve.specs.Curve.{code};
-ghost use Rattle.curve.specs.Boundaries.{Boundaries};
+ghost use Rattle.curve.specs.Inner.{Boundaries};
 ghost use Rattle.light.specs.Light.{codeOfLight, span, spanOfCode, toldCode, toldSpan};
 
 pub enum LightCode {
@@ -111,7 +110,8 @@ fn span_in(y: System, boundaries: &[u16], d: u16) -> Span
     requires { ⌜ Boundaries y (now boundaries) × (16 * scale y ≤ d) × (d ≤ 235 * scale y) ⌝ }
     ensures { λ r. ⌜ r ≡ span y d ⌝ }
 {
-    let n = (d - Range::BLACK * y.scale()) as usize;
+    let nominal = y.nominal();
+    let n = (d - nominal.low) as usize;
     Span {
         least: least_at(boundaries, n),
         greatest: greatest_at(boundaries, n),

@@ -2,7 +2,7 @@
 -- In units of binary32's least value the signal is `grid`, less than one unit of the last place kept off n/k; that place is worth at most
 -- 2^126 units, since n/k is at most 1, and 219s of those are far from half a step.
 -- Assumes nothing.
-use mathlib.Core.Path.{_≡_, refl, sym, ap, _∙_, subst}
+use mathlib.Core.Path.{_≡_, sym, ap, _∙_, subst}
 use mathlib.Core.Bool.{true, false}
 use Prim.Native.Nat.{ℕ, zero, suc, _+_, _-_, _*_, _/_, _%_, _^_, _≤_, _<_, zero-le, compare}
 use native.Mathlib.Nat.{le-of-eq, lt-of-le-of-lt, mul-comm, mul-assoc, mul-left-comm, mul-right-comm, mul-one, one-mul, zero-mul, suc-mul, add-mul, mul-pos, mul-le-mul-right, mul-le-mul, mul-lt-mul-of-pos-right, le-div-iff-mul-le, div-mul-le-self, lt-div-mul-add, div-lt-iff-lt-mul}

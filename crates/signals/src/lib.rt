@@ -1,12 +1,12 @@
 // Float signals to codes and back (document 01, 'Float signals').
 use systems::Codes;
 use systems::Named;
-use systems::Range;
 use systems::Refusal;
 use systems::System;
 ghost use mathlib.Core.Path.{_≡_};
-ghost use Prim.Native.Nat.{_*_, _≤_, _<_};
+ghost use Prim.Native.Nat.{_*_, _≤_};
 ghost use lib.Dec.{T};
+ghost use Rattle.systems.specs.Systems.{scale};
 ghost use Rattle.signals.specs.Signals.{inUnit, allInUnit, component, codesAt, signalCodes, nearest, signalsAt, codeSignals, quantised, restored};
 
 // A triple of signals E', each from 0 to 1.
@@ -29,9 +29,6 @@ pub enum Restored {
     Refused(Refusal),
 }
 
-// Codes from black to white at 8 bits.
-const STEPS: u16 = Range::WHITE - Range::BLACK;
-
 // The code of each signal's exact value; refused with 1, then 7.
 pub fn codes_of_signals(system: u32, signals: Signals) -> Quantised
     ensures { λ r. ⌜ quantised r ≡ signalCodes system signals ⌝ }
@@ -39,7 +36,7 @@ pub fn codes_of_signals(system: u32, signals: Signals) -> Quantised
     match System::from_number(system) {
         Named::Known(y) => {
             if all_in_unit(signals) {
-                Quantised::Codes(codes_at(y.scale(), signals))
+                Quantised::Codes(codes_at(y, signals))
             } else {
                 Quantised::Refused(Refusal::Signal)
             }
@@ -55,7 +52,7 @@ pub fn signals_of_codes(system: u32, codes: Codes) -> Restored
     match System::from_number(system) {
         Named::Known(y) => {
             if codes.all_in(y.nominal()) {
-                Restored::Signals(signals_at(y.scale(), codes))
+                Restored::Signals(signals_at(y, codes))
             } else {
                 Restored::Refused(Refusal::Code)
             }
@@ -78,45 +75,47 @@ fn all_in_unit(signals: Signals) -> bool
 }
 
 // Whole half steps decide the code, and none is lost: the product of 24 binary digits by 13 is exact in binary64.
-fn code_of(s: u16, e: f32) -> u16
-    requires { ⌜ (s ≤ 16) × T (inUnit e) ⌝ }
-    ensures { λ r. ⌜ r ≡ component s e ⌝ }
+fn code_of(y: System, e: f32) -> u16
+    requires { ⌜ T (inUnit e) ⌝ }
+    ensures { λ r. ⌜ r ≡ component (scale y) e ⌝ }
 {
+    let nominal = y.nominal();
     let wide = e as f64;
-    let scaled = (2 * STEPS * s) as f64;
+    let scaled = (2 * (nominal.high - nominal.low)) as f64;
     let halves = std::num::truncating_f64_to_u64(wide * scaled);
     let steps = (halves + 1) / 2;
-    Range::BLACK * s + steps as u16
+    nominal.low + steps as u16
 }
 
-fn codes_at(s: u16, signals: Signals) -> Codes
-    requires { ⌜ (s ≤ 16) × T (inUnit (signals .r)) × T (inUnit (signals .g)) × T (inUnit (signals .b)) ⌝ }
-    ensures { λ r. ⌜ r ≡ codesAt s signals ⌝ }
+fn codes_at(y: System, signals: Signals) -> Codes
+    requires { ⌜ T (inUnit (signals .r)) × T (inUnit (signals .g)) × T (inUnit (signals .b)) ⌝ }
+    ensures { λ r. ⌜ r ≡ codesAt (scale y) signals ⌝ }
 {
     Codes {
-        r: code_of(s, signals.r),
-        g: code_of(s, signals.g),
-        b: code_of(s, signals.b),
+        r: code_of(y, signals.r),
+        g: code_of(y, signals.g),
+        b: code_of(y, signals.b),
     }
 }
 
 // Both operands are exact in binary32, so the quotient is rounded once.
-fn signal_of(s: u16, code: u16) -> f32
-    requires { ⌜ (0 < s) × (s ≤ 16) × (16 * s ≤ code) ⌝ }
-    ensures { λ r. ⌜ r ≡ nearest s code ⌝ }
+fn signal_of(y: System, code: u16) -> f32
+    requires { ⌜ 16 * scale y ≤ code ⌝ }
+    ensures { λ r. ⌜ r ≡ nearest (scale y) code ⌝ }
 {
-    let above_black = (code - Range::BLACK * s) as f32;
-    let steps = (STEPS * s) as f32;
+    let nominal = y.nominal();
+    let above_black = (code - nominal.low) as f32;
+    let steps = (nominal.high - nominal.low) as f32;
     above_black / steps
 }
 
-fn signals_at(s: u16, codes: Codes) -> Signals
-    requires { ⌜ (0 < s) × (s ≤ 16) × (16 * s ≤ codes .r) × (16 * s ≤ codes .g) × (16 * s ≤ codes .b) ⌝ }
-    ensures { λ r. ⌜ r ≡ signalsAt s codes ⌝ }
+fn signals_at(y: System, codes: Codes) -> Signals
+    requires { ⌜ (16 * scale y ≤ codes .r) × (16 * scale y ≤ codes .g) × (16 * scale y ≤ codes .b) ⌝ }
+    ensures { λ r. ⌜ r ≡ signalsAt (scale y) codes ⌝ }
 {
     Signals {
-        r: signal_of(s, codes.r),
-        g: signal_of(s, codes.g),
-        b: signal_of(s, codes.b),
+        r: signal_of(y, codes.r),
+        g: signal_of(y, codes.g),
+        b: signal_of(y, codes.b),
     }
 }

@@ -1,9 +1,9 @@
 -- What a range's test shows of a code and of the codes of a sample.
 -- Assumes nothing.
 use mathlib.Core.Path.{_≡_}
-use mathlib.Core.Bool.{Bool, true, false, _&&_, false≢true}
+use mathlib.Core.Bool.{true}
 use Prim.Native.Nat.{ℕ, _*_, _≤_}
-use lib.Dec.{T, leb, leb→le}
+use lib.Dec.{leb, leb→le}
 use lib.Ieee.Fits.{and-l, and-r}
 use Rattle.exact.proofs.Boolean.{holds, each-of-three}
 use Rattle.systems.specs.declared.Codes.{Codes}

@@ -1,6 +1,6 @@
 -- The four systems and their constants (document 01, 'Four systems'), and the weights (document 01, 'Triples').
 -- Definitions only.
-use Prim.Native.Nat.{ℕ, _+_, _*_, _-_, _^_}
+use Prim.Native.Nat.{ℕ, _*_, _-_, _^_}
 use mathlib.Core.Bool.{Bool, true, false, _&&_, _||_}
 use mathlib.Core.List.{List, [], _∷_}
 use lib.Dec.{leb, ltb, eqb}

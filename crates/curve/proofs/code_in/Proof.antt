@@ -1,26 +1,22 @@
--- `curve::code_in` meets its contract: the two compares find the code, and nothing on the way is above 235s.
+-- `curve::code_in` meets its contract: the two compares find the code, and the entry that they begin at is below the table's end.
 -- Assumes nothing.
-use mathlib.Core.Path.{_≡_}
-use Prim.Native.Nat.{ℕ, _+_, _*_, _/_, _^_, _≤_, _<_}
+use mathlib.Core.Path.{sym}
+use Prim.Native.Nat.{ℕ, _+_, _/_, _^_, _≤_, _<_}
 use native.Mathlib.Nat.{div-le-self}
 use native.Mathlib.Omega.{arith}
 use borrow.Author.Needs.{needs}
 use denote.Ref.{now}
-use mir.Val.{boolByte}
-use lib.Dec.{leb}
 use lib.ListN.{length, getD}
 use Rattle.systems.proofs.Scales.{scale-range}
-use Rattle.systems.specs.Systems.{scale}
-use Rattle.curve.specs.Curve.{code}
-use Rattle.curve.proofs.Lights.{code-high}
 use Rattle.curve.proofs.Lookup.{in-index, in-table, found}
 use Rattle.curve.proofs.code_in.Statement.{statement}
 use Rattle.curve.proofs.code_in.Tie as tie
 use Rattle.curve.proofs.code_in.Reads as reads
 use Rattle.curve.proofs.code_in.Lts as lts
-use Rattle.systems.proofs.System.scale.Reads as scale-reads
+use Rattle.curve.proofs.passed.Reads as passed-reads
+use Rattle.systems.proofs.System.nominal.Reads as nominal-reads
 
-module _ (c : lts.Start (scale-reads.Asked, scale-reads.Learnt) reads.Pre reads.Post) where
+module _ (c : lts.Start (nominal-reads.Asked, nominal-reads.Learnt, passed-reads.Asked, passed-reads.Learnt) reads.Pre reads.Post) where
   abbrev k : ℕ
   k = c .args .light
 
@@ -39,15 +35,10 @@ module _ (c : lts.Start (scale-reads.Asked, scale-reads.Learnt) reads.Pre reads.
   index-read : place < length (now (c .args .index))
   index-read = in-index (c .args .y) (c .args .shift) (now (c .args .boundaries)) (now (c .args .index)) (c .pre) k light
 
-  table-read : entry + 2 ≤ length (now (c .args .boundaries))
-  table-read = in-table (c .args .y) (c .args .shift) (now (c .args .boundaries)) (now (c .args .index)) (c .pre) k light
-
-  -- the code by the two compares, and a bound of it, so of the entry and of each sum on the way
-  sum : (code (c .args .y) k ≡ 16 * scale (c .args .y) + entry + boolByte (leb (getD (now (c .args .boundaries)) entry 0) k) + boolByte (leb (getD (now (c .args .boundaries)) (entry + 1) 0) k))
-      × (code (c .args .y) k ≤ 3760)
-  sum = (
-    found (c .args .y) (c .args .shift) (now (c .args .boundaries)) (now (c .args .index)) (c .pre) k light,
-    omega (arith, code-high (c .args .y) k, scale-range (c .args .y)),
+  table-read : (entry + 2 ≤ length (now (c .args .boundaries))) × (length (now (c .args .boundaries)) ≤ 3504)
+  table-read = (
+    in-table (c .args .y) (c .args .shift) (now (c .args .boundaries)) (now (c .args .index)) (c .pre) k light,
+    omega (arith, c .pre .boundaries .size, scale-range (c .args .y)),
   )
 
 cast-n : tie.Need-cast-n
@@ -66,49 +57,49 @@ shared-slice-read-n : tie.Need-shared-slice-read-n
 shared-slice-read-n c = index-read (c .before .before .before)
 
 cast-n-3 : tie.Need-cast-n-3
-cast-n-3 c = omega (arith, sum (c .before .before .before))
+cast-n-3 c = omega (arith, table-read (c .before .before .before))
 
-mul-result : tie.Need-mul-result
-mul-result c = omega (arith, sum (c .before .before .before))
-
-shared-slice-read-result : tie.Need-shared-slice-read-result
-shared-slice-read-result c = omega (arith, table-read (c .before .before .before .before))
+nominal-requires : tie.Need-nominal-requires
+nominal-requires c κs = search needs
 
 cast-result : tie.Need-cast-result
 cast-result c = search needs
 
 add-result : tie.Need-add-result
-add-result c = omega (arith, sum (c .before .before .before .before))
+add-result c = omega (arith, table-read (c .before .before .before .before .before))
+
+mul-passed : tie.Need-mul-passed
+mul-passed c = omega (arith, table-read (c .before .before .before .before .before))
+
+shared-slice-read-passed : tie.Need-shared-slice-read-passed
+shared-slice-read-passed c = omega (arith, table-read (c .before .before .before .before .before .before))
+
+passed-requires : tie.Need-passed-requires
+passed-requires c κs = search needs
 
 add-result-2 : tie.Need-add-result-2
-add-result-2 c = omega (arith, sum (c .before .before .before .before))
+add-result-2 c = omega (arith, table-read (c .before .before .before .before .before .before .before))
 
-mul-result-2 : tie.Need-mul-result-2
-mul-result-2 c = omega (arith, sum (c .before .before .before .before))
+add-passed : tie.Need-add-passed
+add-passed c = omega (arith, table-read (c .before .before .before .before .before .before .before))
 
-shared-slice-read-result-2 : tie.Need-shared-slice-read-result-2
-shared-slice-read-result-2 c = omega (arith, table-read (c .before .before .before .before .before))
+mul-passed-2 : tie.Need-mul-passed-2
+mul-passed-2 c = omega (arith, table-read (c .before .before .before .before .before .before .before))
 
-cast-result-2 : tie.Need-cast-result-2
-cast-result-2 c = search needs
+shared-slice-read-passed-2 : tie.Need-shared-slice-read-passed-2
+shared-slice-read-passed-2 c = omega (arith, table-read (c .before .before .before .before .before .before .before .before))
+
+passed-requires-2 : tie.Need-passed-requires-2
+passed-requires-2 c κs = search needs
 
 add-result-3 : tie.Need-add-result-3
-add-result-3 c = omega (arith, sum (c .before .before .before .before .before))
-
-scale-requires : tie.Need-scale-requires
-scale-requires c κs = search needs
-
-mul-result-3 : tie.Need-mul-result-3
-mul-result-3 c = omega (arith, sum (c .before .before .before .before .before .before))
-
-cast-result-3 : tie.Need-cast-result-3
-cast-result-3 c = search needs
-
-add-result-4 : tie.Need-add-result-4
-add-result-4 c = omega (arith, sum (c .before .before .before .before .before .before))
+add-result-3 c = omega (arith, table-read (c .before .before .before .before .before .before .before .before .before))
 
 returns : tie.Need-returns
-returns c = omega (arith, sum (c .before .before .before .before .before .before))
+returns c =
+    let start = c .before .before .before .before .before .before .before .before .before in
+    rw (c .before .before .before .before .before .nominal .ensures, c .before .before .passed .ensures .0, c .passed2 .ensures .0)
+    (sym (found (start .args .y) (start .args .shift) (now (start .args .boundaries)) (now (start .args .index)) (start .pre) (start .args .light) (light start)))
 
 pub code-in-spec : {M : Type 1} → statement M
 code-in-spec =
@@ -120,17 +111,16 @@ code-in-spec =
     mul-n
     shared-slice-read-n
     cast-n-3
-    mul-result
-    shared-slice-read-result
+    nominal-requires
     cast-result
     add-result
+    mul-passed
+    shared-slice-read-passed
+    passed-requires
     add-result-2
-    mul-result-2
-    shared-slice-read-result-2
-    cast-result-2
+    add-passed
+    mul-passed-2
+    shared-slice-read-passed-2
+    passed-requires-2
     add-result-3
-    scale-requires
-    mul-result-3
-    cast-result-3
-    add-result-4
     returns)

@@ -1,6 +1,6 @@
 use mathlib.Core.Path.{subst⁻¹}
 use Rattle.systems.specs.declared.System.{System}
-use Rattle.curve.specs.Boundaries.{Ready}
+use Rattle.curve.specs.Inner.{Ready}
 use borrow.Author.Needs.{needs}
 use Rattle.light.proofs.code_of.Statement.{statement}
 use Rattle.light.proofs.code_of.Tie as tie

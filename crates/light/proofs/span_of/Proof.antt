@@ -1,6 +1,6 @@
 use mathlib.Core.Path.{subst⁻¹}
 use Rattle.systems.specs.declared.System.{System}
-use Rattle.curve.specs.Boundaries.{Boundaries}
+use Rattle.curve.specs.Inner.{Boundaries}
 use borrow.Author.Needs.{needs}
 use Rattle.light.proofs.span_of.Statement.{statement}
 use Rattle.light.proofs.span_of.Tie as tie

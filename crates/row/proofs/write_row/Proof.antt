@@ -3,7 +3,7 @@
 use mathlib.Core.Path.{ap, subst⁻¹}
 use Rattle.systems.specs.declared.System.{System}
 use Rattle.systems.specs.Systems.{matrix}
-use Rattle.curve.specs.Boundaries.{Ready}
+use Rattle.curve.specs.Inner.{Ready}
 use Rattle.row.proofs.Written.{row-written}
 use borrow.Author.Needs.{needs}
 use Rattle.row.proofs.write_row.Statement.{statement}

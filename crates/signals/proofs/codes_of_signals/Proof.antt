@@ -1,7 +1,5 @@
 use mathlib.Core.Path.{_∙_, sym}
-use native.Mathlib.Omega.{arith}
 use borrow.Author.Needs.{needs}
-use Rattle.systems.proofs.Scales.{scale-range}
 use Rattle.signals.proofs.Triple.{each-in-unit}
 use Rattle.signals.proofs.codes_of_signals.Statement.{statement}
 use Rattle.signals.proofs.codes_of_signals.Tie as tie
@@ -15,24 +13,20 @@ enum-known-y c = search needs
 all-in-unit-requires : tie.Need-all-in-unit-requires
 all-in-unit-requires c κs = search needs
 
-scale-requires : tie.Need-scale-requires
-scale-requires c κs = search needs
-
 codes-at-requires : tie.Need-codes-at-requires
 codes-at-requires c κs =
-    let tested = c .before .before in
+    let tested = c .before in
     let named = tested .before .before in
-    let units = each-in-unit (named .before .before .before .args .signals) (sym (tested .all-in-unit .ensures) ∙ c .before .if1 .taken) in
-    (omega (arith, scale-range (named .y .given .0 .0)), units .0, units .1, units .2)
+    each-in-unit (named .before .before .before .args .signals) (sym (tested .all-in-unit .ensures) ∙ c .if1 .taken)
 
 enum-told : tie.Need-enum-told
 enum-told c = search needs
 
 returns : tie.Need-returns
 returns c =
-    let tested = c .before .before .before in
+    let tested = c .before .before in
     let named = tested .before .before in
-    rw (sym (named .before .before .from-number .ensures), named .y .given .1, sym (tested .all-in-unit .ensures) ∙ c .before .before .if1 .taken, c .codes-at .ensures, c .before .scale .ensures)
+    rw (sym (named .before .before .from-number .ensures), named .y .given .1, sym (tested .all-in-unit .ensures) ∙ c .before .if1 .taken, c .codes-at .ensures)
 
 returns-2 : tie.Need-returns-2
 returns-2 c =
@@ -49,7 +43,6 @@ codes-of-signals-spec =
     from-number-requires
     enum-known-y
     all-in-unit-requires
-    scale-requires
     codes-at-requires
     enum-told
     returns

@@ -1,38 +1,43 @@
+use mathlib.Core.Path.{_≡_}
 use Prim.Native.Nat.{_-_, _*_}
 use native.Mathlib.Omega.{arith}
 use borrow.Author.Needs.{needs}
+use Rattle.systems.proofs.Scales.{scale-range}
+use Rattle.systems.specs.Systems.{scale}
 use Rattle.signals.proofs.Quotient.{quotient-rounds-once}
 use Rattle.signals.proofs.signal_of.Statement.{statement}
 use Rattle.signals.proofs.signal_of.Tie as tie
 
-mul-above-black : tie.Need-mul-above-black
-mul-above-black c = search needs
+nominal-requires : tie.Need-nominal-requires
+nominal-requires c κs = search needs
 
 sub-above-black : tie.Need-sub-above-black
-sub-above-black c = search needs
+sub-above-black c = rw (c .before .nominal .ensures) (c .before .before .pre)
 
 int-to-float-above-black : tie.Need-int-to-float-above-black
 int-to-float-above-black c = search needs
 
-mul-steps : tie.Need-mul-steps
-mul-steps c = search needs
+sub-steps : tie.Need-sub-steps
+sub-steps c = rw (c .before .before .before .nominal .ensures) (omega arith)
 
 int-to-float-steps : tie.Need-int-to-float-steps
 int-to-float-steps c = search needs
 
 returns : tie.Need-returns
 returns c =
-    let s = c .before .before .args .s in
-    let d = c .before .before .args .code in
-    quotient-rounds-once (d - 16 * s) (219 * s) (omega arith) (omega arith) (omega arith)
+    let st = c .before .before .before .before .before in
+    let s = scale (st .args .y) in
+    let steps : 235 * s - 16 * s ≡ 219 * s = omega arith in
+    let S = scale-range (st .args .y) in
+    rw (c .before .before .before .before .nominal .ensures, steps) (quotient-rounds-once (st .args .code - 16 * s) (219 * s) (omega arith) (omega (arith, S)) (omega (arith, S)))
 
 pub signal-of-spec : {M : Type 1} → statement M
 signal-of-spec =
     tie.close
     (tie.spec
-    mul-above-black
+    nominal-requires
     sub-above-black
     int-to-float-above-black
-    mul-steps
+    sub-steps
     int-to-float-steps
     returns)

@@ -1,7 +1,6 @@
 use mathlib.Core.Path.{_∙_, sym}
 use borrow.Author.Needs.{needs}
 use Rattle.systems.proofs.Ranges.{all-nominal}
-use Rattle.systems.proofs.Scales.{scale-range}
 use Rattle.signals.proofs.signals_of_codes.Statement.{statement}
 use Rattle.signals.proofs.signals_of_codes.Tie as tie
 
@@ -17,26 +16,21 @@ nominal-requires c κs = search needs
 all-in-requires : tie.Need-all-in-requires
 all-in-requires c κs = search needs
 
-scale-requires : tie.Need-scale-requires
-scale-requires c κs = search needs
-
 signals-at-requires : tie.Need-signals-at-requires
 signals-at-requires c κs =
-    let tested = c .before .before in
+    let tested = c .before in
     let named = tested .before .before .before in
-    let y = named .y .given .0 .0 in
-    let s = scale-range y in
-    let ranges = all-nominal y (named .before .before .before .args .codes) (rw (tested .before .nominal .ensures) at (sym (tested .all-in .ensures) ∙ c .before .if1 .taken)) in
-    rw (c .scale .ensures) (s .0, s .1, ranges .0 .0, ranges .1 .0, ranges .2 .0)
+    let ranges = all-nominal (named .y .given .0 .0) (named .before .before .before .args .codes) (rw (tested .before .nominal .ensures) at (sym (tested .all-in .ensures) ∙ c .if1 .taken)) in
+    (ranges .0 .0, ranges .1 .0, ranges .2 .0)
 
 enum-told : tie.Need-enum-told
 enum-told c = search needs
 
 returns : tie.Need-returns
 returns c =
-    let tested = c .before .before .before in
+    let tested = c .before .before in
     let named = tested .before .before .before in
-    rw (sym (named .before .before .from-number .ensures), named .y .given .1, rw (tested .before .nominal .ensures) at (sym (tested .all-in .ensures) ∙ c .before .before .if1 .taken), c .signals-at .ensures, c .before .scale .ensures)
+    rw (sym (named .before .before .from-number .ensures), named .y .given .1, rw (tested .before .nominal .ensures) at (sym (tested .all-in .ensures) ∙ c .before .if1 .taken), c .signals-at .ensures)
 
 returns-2 : tie.Need-returns-2
 returns-2 c =
@@ -54,7 +48,6 @@ signals-of-codes-spec =
     enum-known-y
     nominal-requires
     all-in-requires
-    scale-requires
     signals-at-requires
     enum-told
     returns

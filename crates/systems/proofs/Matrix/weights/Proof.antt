@@ -1,6 +1,5 @@
 use mathlib.Core.Path.{refl}
 use borrow.Author.Needs.{needs}
-use Rattle.systems.specs.Systems.{kr, kg, kb}
 use Rattle.systems.proofs.Matrix.weights.Statement.{statement}
 use Rattle.systems.proofs.Matrix.weights.Tie as tie
 

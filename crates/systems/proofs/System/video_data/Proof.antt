@@ -1,8 +1,5 @@
-use mathlib.Core.Path.{ap}
-use Prim.Native.Nat.{ℕ, _*_, _-_}
 use native.Mathlib.Omega.{arith}
 use borrow.Author.Needs.{needs}
-use Rattle.systems.specs.declared.Range.{Range}
 use Rattle.systems.proofs.Scales.{scale-range}
 use Rattle.systems.proofs.System.video_data.Statement.{statement}
 use Rattle.systems.proofs.System.video_data.Tie as tie

@@ -1,4 +1,5 @@
--- What a table of boundary lights, and an index into it, must be for the lookup to find a light's code. Definitions only.
+-- Inner definitions: what the lookup needs of a table of boundary lights and of an index into it. Nothing here has to be believed.
+-- Definitions only.
 use mathlib.Core.Path.{_≡_}
 use mathlib.Core.List.{List}
 use Prim.Native.Nat.{ℕ, suc, _+_, _*_, _-_, _^_, _≤_, _<_}

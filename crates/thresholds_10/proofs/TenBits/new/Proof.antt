@@ -6,8 +6,8 @@ use Rattle.systems.specs.declared.System.the-variants.{Bt709Bits10}
 use Rattle.curve.specs.Curve.{dark, reaches}
 use Rattle.curve.proofs.Curve.{onLine, atLeast}
 use Rattle.curve.proofs.Tests.{ready, shared, boundary, bucket}
-use Rattle.thresholds.proofs.TenBits.new.Statement.{statement}
-use Rattle.thresholds.proofs.TenBits.new.Tie as tie
+use Rattle.thresholds_10.proofs.TenBits.new.Statement.{statement}
+use Rattle.thresholds_10.proofs.TenBits.new.Tie as tie
 
 returns : tie.Need-returns
 unfolding boundary bucket atLeast dark onLine reaches

@@ -1,12 +1,12 @@
 -- Demand 3, as one claim about every list of calls on a card that does what the definitions say, and so of this crate's.
 -- Assumes nothing.
-use Prim.Native.Nat.{ℕ, _+_, _*_, _≤_}
+use Prim.Native.Nat.{ℕ, _*_, _≤_}
 use mathlib.Core.Path.{_≡_, refl, ap, sym, subst}
 use mathlib.Core.Bool.{Bool, true, false}
 use mathlib.Core.List.{List, [], _∷_, _++_}
 use native.Mathlib.Omega.{arith}
 use lib.Dec.{ltb, leb, eqb}
-use lib.ListN.{length, drop}
+use lib.ListN.{length}
 use lib.Seq.{take-at, drop-at}
 use borrow.Author.Tests.{ltb-true}
 use Rattle.exact.specs.Outcome as outcome

@@ -1,4 +1,4 @@
-pub mod Runs
+pub mod Card
 pub mod Kept
 pub mod Door
 pub mod Histories

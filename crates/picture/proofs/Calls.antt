@@ -1,31 +1,32 @@
--- Runs of calls on one picture. Each step is what the called function's own contract says (its generated `Post`), so nothing is restated here.
+-- What a card's calls do, and runs of them on one picture.
 -- Definitions only.
 use Prim.Native.Nat.{ℕ, _≤_}
 use mathlib.Core.List.{List, [], _∷_}
 use lib.ListN.{length, getD}
-use contract.Lifetimes.{Lfts}
-use denote.Ref.{RefT, now}
-use Rattle.exact.specs.Outcome as outcome
 use Rattle.exact.specs.Outcome.{Outcome}
 use Rattle.curve.specs.Curve.{fullLight}
-use Rattle.picture.specs.declared.Picture.{Picture}
-use Rattle.picture.specs.declared.Change.{Change}
-use Rattle.picture.specs.Picture.{toldPicture}
-use Rattle.picture.specs.Book.{Call, opens, rows, closes, Heard, accepted, refused}
-use Rattle.picture.proofs.Picture.new.Reads as new-call
-use Rattle.picture.proofs.Picture.open.Reads as open-call
-use Rattle.picture.proofs.Picture.row.Reads as row-call
-use Rattle.picture.proofs.Picture.close.Reads as close-call
+use Rattle.picture.specs.Book.{Call, opens, rows, closes, Heard}
 
--- what the caller hears of a call
-abbrev pub heardOf : Outcome Picture → Heard
-heardOf (outcome.accepted p) = accepted
-heardOf (outcome.refused n) = refused n
+-- what a reading tells of a block: its system's number, its count and its row number
+pub record Label : Type 0 where
+  pub system : ℕ
+  pub samples : ℕ
+  pub row : ℕ
 
--- the picture that the next call is given: what the call returned, or after a refusal what it was given itself
-abbrev pub leads : Picture → Outcome Picture → Picture
-leads p (outcome.accepted q) = q
-leads p (outcome.refused n) = p
+-- a card, by what its calls do: each stands between what it was given and what came of it
+pub record Card : Type 1 where
+  -- a picture as the caller holds it
+  pub Picture : Type 0
+  -- a new one
+  pub New : Picture → Type 0
+  -- a picture, system, width and height; what was heard, and the picture that the next call is given
+  pub Open : Picture → ℕ → ℕ → ℕ → Heard → Picture → Type 0
+  -- a picture, lights and a lent buffer; what was heard, the buffer as it was left, and the next picture
+  pub Row : Picture → List ℕ → List ℕ → Heard → List ℕ → Picture → Type 0
+  -- a picture; what was heard, and the next picture
+  pub Close : Picture → Heard → Picture → Type 0
+  -- a block's bytes and a lent slice; what was told, and the slice as it was left
+  pub Read : List ℕ → List ℕ → Outcome Label → List ℕ → Type 0
 
 -- a buffer that was lent to a row: what was heard of the call, and its bytes before and after
 pub record Lent : Type 0 where
@@ -37,22 +38,19 @@ pub record Lent : Type 0 where
 abbrev pub Lights : List ℕ → Type 0
 Lights lights = (j : ℕ) → getD lights j 0 ≤ fullLight
 
--- from the picture p the calls cs were made, each on what the one before it led to, and the last led to q; hs was heard, and ls are the buffers lent to the rows
-pub data Ran : Picture → List Call → List Heard → List Lent → Picture → Type 0 where
-  ends : {p : Picture} → Ran p [] [] [] p
-  after-open : {p q : Picture} {n w h : ℕ} {cs : List Call} {hs : List Heard} {ls : List Lent} (r : Change) (p′ : Picture) (n′ w′ h′ : ℕ)
-      → open-call.Post tt (p, (n, (w, (h, tt)))) r (p′, (n′, (w′, (h′, tt))))
-      → Ran (leads p (toldPicture r)) cs hs ls q → Ran p (opens n w h ∷ cs) (heardOf (toldPicture r) ∷ hs) ls q
-  after-row : {p q : Picture} {cs : List Call} {hs : List Heard} {ls : List Lent} (κs : Lfts 2) (lights out lights′ out′ : RefT (List ℕ)) (r : Change) (p′ : Picture)
-      → Lights (now lights) → row-call.Post κs (p, (lights, (out, tt))) r (p′, (lights′, (out′, tt)))
-      → Ran (leads p (toldPicture r)) cs hs ls q
-      → Ran p (rows (now lights) (length (now out)) ∷ cs) (heardOf (toldPicture r) ∷ hs) (record { heard = heardOf (toldPicture r); before = now out; after = now out′ } ∷ ls) q
-  after-close : {p q : Picture} {cs : List Call} {hs : List Heard} {ls : List Lent} (r : Change) (p′ : Picture)
-      → close-call.Post tt (p, tt) r (p′, tt)
-      → Ran (leads p (toldPicture r)) cs hs ls q → Ran p (closes ∷ cs) (heardOf (toldPicture r) ∷ hs) ls q
+-- from the picture p the calls cs were made, each on the picture that the one before it gave, and the last gave q; hs was heard, and ls are the buffers lent to the rows
+pub data Ran (card : Card) : card .Picture → List Call → List Heard → List Lent → card .Picture → Type 0 where
+  ends : {p : card .Picture} → Ran card p [] [] [] p
+  after-open : {p p′ q : card .Picture} {n w h : ℕ} {heard : Heard} {cs : List Call} {hs : List Heard} {ls : List Lent}
+      → card .Open p n w h heard p′ → Ran card p′ cs hs ls q → Ran card p (opens n w h ∷ cs) (heard ∷ hs) ls q
+  after-row : {p p′ q : card .Picture} {lights out out′ : List ℕ} {heard : Heard} {cs : List Call} {hs : List Heard} {ls : List Lent}
+      → Lights lights → card .Row p lights out heard out′ p′ → Ran card p′ cs hs ls q
+      → Ran card p (rows lights (length out) ∷ cs) (heard ∷ hs) (record { heard = heard; before = out; after = out′ } ∷ ls) q
+  after-close : {p p′ q : card .Picture} {heard : Heard} {cs : List Call} {hs : List Heard} {ls : List Lent}
+      → card .Close p heard p′ → Ran card p′ cs hs ls q → Ran card p (closes ∷ cs) (heard ∷ hs) ls q
 
--- from a fresh picture: what `Picture::new` returned
-pub record History (cs : List Call) (hs : List Heard) (ls : List Lent) (q : Picture) : Type 0 where
-  pub start : Picture
-  pub made : new-call.Post tt tt start tt
-  pub ran : Ran start cs hs ls q
+-- from a fresh picture
+pub record History (card : Card) (cs : List Call) (hs : List Heard) (ls : List Lent) (q : card .Picture) : Type 0 where
+  pub start : card .Picture
+  pub made : card .New start
+  pub ran : Ran card start cs hs ls q

@@ -1,14 +1,11 @@
 -- What demand 3 says of a list of calls, in document 01's words ('Picture', 'Light to code', 'Triples').
 -- Definitions only.
-use Prim.Native.Nat.{ℕ, _+_, _*_, _-_, _≤_, _<_}
+use Prim.Native.Nat.{ℕ, _+_, _*_, _-_, _≤_, _<_, min, max}
 use mathlib.Core.Path.{_≡_}
-use mathlib.Core.Bool.{true, false}
+use mathlib.Core.Bool.{false}
 use mathlib.Core.List.{List, [], _∷_, _++_}
-use lib.Dec.{leb}
 use lib.IntN.{pos}
 use lib.ListN.{length, take, drop, getD}
-use contract.Lifetimes.{Lfts}
-use denote.Ref.{RefT, now}
 use Rattle.exact.specs.Outcome as outcome
 use Rattle.exact.specs.Outcome.{Outcome}
 use Rattle.exact.specs.Signed.{Ratio}
@@ -19,26 +16,22 @@ use Rattle.systems.specs.Systems.{number, matrix, scale, timing}
 use Rattle.curve.specs.Curve.{code, leastLight, greatestLight}
 use Rattle.matrix.specs.declared.Words.{Words}
 use Rattle.matrix.specs.Triples.{luma, cbOf, crOf}
-use Rattle.block.specs.declared.Header.{Header}
-use Rattle.block.specs.declared.BlockRead.{BlockRead}
-use Rattle.block.specs.Read.{sampleAt, toldHeader}
-use Rattle.block.proofs.read_block.Reads as read-call
+use Rattle.block.specs.Read.{sampleAt}
 use Rattle.picture.specs.declared.Opened.{Opened}
 use Rattle.picture.specs.declared.Phase.{Phase}
 use Rattle.picture.specs.declared.Phase.the-variants.{Fresh, Open, Closed}
-use Rattle.picture.specs.declared.Picture.{Picture}
 use Rattle.picture.specs.Book.{Call, State, fresh, opened, closed, Entry, Heard, accepted, refused, next, heardFrom, entriesFrom}
-use Rattle.picture.proofs.Calls.{Lent}
+use Rattle.picture.proofs.Calls.{Label, Card, Lent}
 
 abbrev pub WithinOne : ℕ → ℕ → Type 0
 WithinOne a b = (a ≤ b + 1) × (b ≤ a + 1)
 
 -- the code below and the code above; where it would leave 16s to 235s, the end code itself
 abbrev pub below : System → ℕ → ℕ
-below y d = elim (leb d (16 * scale y)) [ true ↦ d | false ↦ d - 1 ]
+below y d = max (16 * scale y) (d - 1)
 
 abbrev pub above : System → ℕ → ℕ
-above y d = elim (leb (235 * scale y) d) [ true ↦ d | false ↦ d + 1 ]
+above y d = min (235 * scale y) (d + 1)
 
 -- the code d was read for the light k
 pub record ReadCode (y : System) (k d : ℕ) : Type 0 where
@@ -64,20 +57,15 @@ pub record StoredSample (y : System) (c : Codes) (v : Words) : Type 0 where
   pub cb-word : StoredWord y (cbOf (matrix y) (scale y) c) (v .cb)
   pub cr-word : StoredWord y (crOf (matrix y) (scale y) c) (v .cr)
 
--- a reading of the entry's block heard r, and left these words in the slice
-pub record Read (e : Entry) (y : System) (r : Outcome Header) (slice : List ℕ) : Type 0 where
-  -- it is accepted
-  pub header : Header
-  pub heard : r ≡ outcome.accepted header
-  -- with its entry's system, width and row number
-  pub system : header .system ≡ y
-  pub width : header .samples ≡ e .width
-  pub row : header .row ≡ e .row
+-- a reading of the entry's block was told r, and left these words in the slice
+pub record Read (e : Entry) (y : System) (r : Outcome Label) (slice : List ℕ) : Type 0 where
+  -- it is accepted, with its entry's system, width and row number
+  pub told : r ≡ outcome.accepted (record { system = e .system; samples = e .width; row = e .row })
   -- the code at place j is that of the light at place j
   pub codes : (j : ℕ) → j < 3 * e .width → ReadCode y (getD (e .lights) j 0) (getD slice j 0)
 
 -- the bytes are the block of an entry
-pub record ReadsBack (bytes : List ℕ) (e : Entry) : Type 0 where
+pub record ReadsBack (card : Card) (bytes : List ℕ) (e : Entry) : Type 0 where
   -- the entry's system
   pub system : System
   pub numbered : number system ≡ e .system
@@ -85,17 +73,16 @@ pub record ReadsBack (bytes : List ℕ) (e : Entry) : Type 0 where
   pub size : length bytes ≡ 9 + 6 * e .width
   -- every stored word is within half a code of its exact rational for the codes of its sample's lights, and none is a timing code
   pub words : (i : ℕ) → i < e .width → StoredSample system (codesOf system (e .lights) i) (sampleAt bytes (e .width) i)
-  -- whatever a reading returns that is lent these bytes and a slice of at least 3·width words
-  pub reads : (κs : Lfts 2) (bytes₀ codes₀ bytes₁ codes₁ : RefT (List ℕ)) (r : BlockRead) → now bytes₀ ≡ bytes → 3 * e .width ≤ length (now codes₀)
-      → read-call.Post κs (bytes₀, (codes₀, tt)) r (bytes₁, (codes₁, tt)) → Read e system (toldHeader r) (now codes₁)
+  -- every reading that is lent these bytes and a slice of at least 3·width words
+  pub reads : {slice left : List ℕ} {r : Outcome Label} → 3 * e .width ≤ length slice → card .Read bytes slice r left → Read e system r left
 
 -- the buffers of accepted rows, and as many entries
-pub data Blocks : List Lent → List Entry → Type 0 where
-  none : Blocks [] []
+pub data Blocks (card : Card) : List Lent → List Entry → Type 0 where
+  none : Blocks card [] []
   -- the first 9 + 6·width bytes that a call left are its entry's block, and later bytes stay
   one : {l : Lent} {e : Entry} {ls : List Lent} {es : List Entry}
-      → ReadsBack (take (9 + 6 * e .width) (l .after)) e → drop (9 + 6 * e .width) (l .after) ≡ drop (9 + 6 * e .width) (l .before)
-      → Blocks ls es → Blocks (l ∷ ls) (e ∷ es)
+      → ReadsBack card (take (9 + 6 * e .width) (l .after)) e → drop (9 + 6 * e .width) (l .after) ≡ drop (9 + 6 * e .width) (l .before)
+      → Blocks card ls es → Blocks card (l ∷ ls) (e ∷ es)
 
 -- the buffers of the accepted rows
 abbrev pub keptBy : Heard → Lent → List Lent
@@ -122,15 +109,15 @@ unfoldable pub stateFrom : State → List Call → State
 stateFrom st [] = st
 stateFrom st (c ∷ cs) = stateFrom (next st c) cs
 
--- from the book's state st: what a list of calls comes to
-pub record Demanded (st : State) (cs : List Call) (hs : List Heard) (ls : List Lent) (q : Picture) : Type 0 where
+-- from the book's state st: what a list of calls on a card comes to, where the last call left its picture at the state last
+pub record Demanded (card : Card) (st : State) (cs : List Call) (hs : List Heard) (ls : List Lent) (last : State) : Type 0 where
   -- exactly the calls that the row book accepts were accepted, and the rest were refused with its numbers
   pub heard : hs ≡ heardFrom st cs
   -- a refused call changed neither the picture, which is where the book is, nor a buffer
-  pub state : stateOf (q .phase) ≡ stateFrom st cs
+  pub state : last ≡ stateFrom st cs
   pub unchanged : Unchanged ls
   -- the blocks of the accepted rows, in order, are those of the book's entries
-  pub blocks : Blocks (kept ls) (entriesFrom st cs)
+  pub blocks : Blocks card (kept ls) (entriesFrom st cs)
 
 -- a width of 1 to 7680, a height of 1 to 4320, and no more rows than the height
 pub record Sized (o : Opened) : Type 0 where

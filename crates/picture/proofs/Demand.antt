@@ -1,29 +1,32 @@
--- Demand 3, as one claim about every list of calls.
+-- Demand 3, as one claim about every list of calls on a card that does what the definitions say, and so of this crate's.
 -- Assumes nothing.
-use Prim.Native.Nat.{ℕ, _+_, _*_, _≤_}
+use Prim.Native.Nat.{ℕ, _*_, _≤_}
 use mathlib.Core.Path.{_≡_, refl, ap, sym, subst}
 use mathlib.Core.Bool.{Bool, true, false}
 use mathlib.Core.List.{List, [], _∷_, _++_}
 use native.Mathlib.Omega.{arith}
 use lib.Dec.{ltb, leb, eqb}
-use lib.ListN.{length, drop}
+use lib.ListN.{length}
 use lib.Seq.{take-at, drop-at}
 use borrow.Author.Tests.{ltb-true}
-use denote.Ref.{now}
 use Rattle.exact.specs.Outcome as outcome
 use Rattle.exact.specs.Outcome.{Outcome}
 use Rattle.systems.specs.Systems.{number}
+use Rattle.block.specs.Read.{headerOf, sliceAfter}
 use Rattle.row.specs.Row.{rowBlock}
 use Rattle.picture.specs.declared.Opened.{Opened}
 use Rattle.picture.specs.declared.Phase.{Phase}
 use Rattle.picture.specs.declared.Phase.the-variants.{Fresh, Open, Closed}
 use Rattle.picture.specs.declared.Picture.{Picture}
-use Rattle.picture.specs.Picture.{at, toldPicture, blockLength, rowOpen, rowFrom, bufferBy, bufferFrom}
+use Rattle.picture.specs.Picture.{at, opening, blockLength, rowOpen, rowFrom, rowing, bufferBy, bufferFrom, bufferAfter, closing}
 use Rattle.picture.specs.Book.{Call, opens, rows, closes, State, fresh, Heard, accepted, refused, Entry, accepts, enters, choose, heardFrom, entriesFrom}
-use Rattle.picture.proofs.Calls.{heardOf, leads, Lent, Lights, Ran, ends, after-open, after-row, after-close, History}
+use Rattle.picture.proofs.Agreement.{split}
+use Rattle.picture.proofs.Calls.{Label, Card, Lent, Lights, Ran, ends, after-open, after-row, after-close, History}
+use Rattle.picture.proofs.Card.{heardOf, labelOf, Opens, by-open, Rows, by-row, Closes, by-close, Reads, by-read-block, card}
 use Rattle.picture.proofs.Claims.{ReadsBack, Blocks, none, one, keptBy, kept, Unchanged, stateOf, stateFrom, Demanded, Proper}
+use Rattle.picture.proofs.Faithful.{Follows, Faithful}
 use Rattle.picture.proofs.Rows.{size, reads-back}
-use Rattle.picture.proofs.Steps.{InStep, split, open-step, row-step, close-step}
+use Rattle.picture.proofs.Steps.{InStep, open-step, row-step, close-step}
 
 -- ---- what a row leaves in its buffer
 
@@ -43,11 +46,11 @@ entered st c = choose (accepts st c) (enters st c) []
 abbrev lent : Phase → List ℕ → List ℕ → Lent
 lent f lights out = record { heard = heardOf (rowFrom f lights (length out)); before = out; after = bufferFrom f lights out }
 
-row-keeps : (f : Phase) (lights out : List ℕ) → Proper f → Lights lights
-    → Blocks (keptBy (lent f lights out .heard) (lent f lights out)) (entered (stateOf f) (rows lights (length out)))
+row-keeps : {card : Card} → Faithful card → (f : Phase) (lights out : List ℕ) → Proper f → Lights lights
+    → Blocks card (keptBy (lent f lights out .heard) (lent f lights out)) (entered (stateOf f) (rows lights (length out)))
 unfolding rowOpen
-row-keeps Fresh lights out g l = none
-row-keeps (Open o) lights out g l =
+row-keeps does Fresh lights out g l = none
+row-keeps {card} does (Open o) lights out g l =
     split (ltb (o .rows) (o .height))
     (λ a. split (eqb (length lights) (3 * o .width))
     (λ b. split (leb (blockLength (o .width)) (length out))
@@ -55,75 +58,122 @@ row-keeps (Open o) lights out g l =
     let lt = ltb-true (o .rows) (o .height) a in
     let numbered : o .rows ≤ 4319 = omega (arith, g .height-to) in
     let long = size (o .system) (o .rows) (o .width) lights (g .width-from) (g .width-to) numbered in
-    let back = reads-back (o .system) (o .rows) (o .width) lights (g .width-from) (g .width-to) numbered l in
+    let back = reads-back (o .system) (o .rows) (o .width) lights (g .width-from) (g .width-to) numbered does l in
     let entry : Entry = record { system = number (o .system); width = o .width; row = o .rows; lights = lights } in
     let made : List ℕ = rowBlock (o .system) (o .rows) (o .width) lights in
-    simp (a, b, c) (one {e = entry} (subst (λ (s : List ℕ). ReadsBack s entry) (sym (take-at made _ _ long)) back) (drop-at made _ _ long) none))
+    simp (a, b, c) (one {e = entry} (subst (λ (s : List ℕ). ReadsBack card s entry) (sym (take-at made _ _ long)) back) (drop-at made _ _ long) none))
     (λ c. simp (a, b, c) none))
     (λ b. simp (a, b) none))
     (λ a. simp a none)
-row-keeps Closed lights out g l = none
+row-keeps does Closed lights out g l = none
 
 -- ---- a call, then those that follow it
 
-blocks-append : {ls ms : List Lent} {es fs : List Entry} → Blocks ls es → Blocks ms fs → Blocks (ls ++ ms) (es ++ fs)
+blocks-append : {card : Card} {ls ms : List Lent} {es fs : List Entry} → Blocks card ls es → Blocks card ms fs → Blocks card (ls ++ ms) (es ++ fs)
 blocks-append none y = y
 blocks-append (one r s x) y = one r s (blocks-append x y)
 
-pub record After (p : Picture) (cs : List Call) (hs : List Heard) (ls : List Lent) (q : Picture) : Type 0 where
-  pub demanded : Demanded (stateOf (p .phase)) cs hs ls q
+-- what the calls cs come to that lead from the picture p to q, which calls can reach
+pub record After (card : Card) (p : Picture) (cs : List Call) (hs : List Heard) (ls : List Lent) (q : Picture) : Type 0 where
+  pub demanded : Demanded card (stateOf (p .phase)) cs hs ls (stateOf (q .phase))
   pub proper : Proper (q .phase)
 
--- an open or a close: no buffer, no entry
-call-then : {f : Phase} {c : Call} {o : Outcome Picture} {cs : List Call} {hs : List Heard} {ls : List Lent} {q : Picture} → InStep f c o → entered (stateOf f) c ≡ []
-    → Demanded (stateOf (leads (at f) o .phase)) cs hs ls q → Demanded (stateOf f) (c ∷ cs) (heardOf o ∷ hs) ls q
-unfolding heardFrom entriesFrom stateFrom
-call-then {o = o} i e k = record {
-  heard = rw (← i .leads-on, ← i .same) (ap (λ (l : List Heard). heardOf o ∷ l) (k .heard));
-  state = rw (← i .leads-on) (k .state);
-  unchanged = k .unchanged;
-  blocks = rw (e, ← i .leads-on) (k .blocks);
-}
+module _ {card : Card} {p p′ q : Picture} {c : Call} {heard : Heard} {cs : List Call} {hs : List Heard} {ls : List Lent} (i : InStep p c heard p′) where
+  -- an open or a close: no buffer, no entry
+  call-then : entered (stateOf (p .phase)) c ≡ [] → After card p′ cs hs ls q → After card p (c ∷ cs) (heard ∷ hs) ls q
+  unfolding heardFrom entriesFrom stateFrom
+  call-then e k = record {
+    demanded = record {
+      heard = rw (← i .leads-on, ← i .same) (ap (λ (l : List Heard). heard ∷ l) (k .demanded .heard));
+      state = rw (← i .leads-on) (k .demanded .state);
+      unchanged = k .demanded .unchanged;
+      blocks = rw (e, ← i .leads-on) (k .demanded .blocks);
+    };
+    proper = k .proper;
+  }
 
-row-then : {f : Phase} {c : Call} {o : Outcome Picture} {l : Lent} {cs : List Call} {hs : List Heard} {ls : List Lent} {q : Picture} → InStep f c o
-    → ((n : ℕ) → l .heard ≡ refused n → l .after ≡ l .before) → Blocks (keptBy (l .heard) l) (entered (stateOf f) c)
-    → Demanded (stateOf (leads (at f) o .phase)) cs hs ls q → Demanded (stateOf f) (c ∷ cs) (heardOf o ∷ hs) (l ∷ ls) q
-unfolding heardFrom entriesFrom stateFrom kept Unchanged
-row-then {o = o} i u b k = record {
-  heard = rw (← i .leads-on, ← i .same) (ap (λ (l : List Heard). heardOf o ∷ l) (k .heard));
-  state = rw (← i .leads-on) (k .state);
-  unchanged = (u, k .unchanged);
-  blocks = blocks-append b (rw (← i .leads-on) (k .blocks));
-}
+  row-then : {l : Lent} → ((n : ℕ) → l .heard ≡ refused n → l .after ≡ l .before) → Blocks card (keptBy (l .heard) l) (entered (stateOf (p .phase)) c)
+      → After card p′ cs hs ls q → After card p (c ∷ cs) (heard ∷ hs) (l ∷ ls) q
+  unfolding heardFrom entriesFrom stateFrom kept Unchanged
+  row-then u b k = record {
+    demanded = record {
+      heard = rw (← i .leads-on, ← i .same) (ap (λ (l : List Heard). heard ∷ l) (k .demanded .heard));
+      state = rw (← i .leads-on) (k .demanded .state);
+      unchanged = (u, k .demanded .unchanged);
+      blocks = blocks-append b (rw (← i .leads-on) (k .demanded .blocks));
+    };
+    proper = k .proper;
+  }
 
 no-entry : (t : Bool) → choose {A = List Entry} t [] [] ≡ []
 no-entry true = refl
 no-entry false = refl
 
--- from any picture that calls can reach
-pub run : {p q : Picture} {cs : List Call} {hs : List Heard} {ls : List Lent} → Proper (p .phase) → Ran p cs hs ls q → After p cs hs ls q
-unfolding heardFrom entriesFrom stateFrom kept Unchanged
-run g ends = record { demanded = record { heard = refl; state = refl; unchanged = tt; blocks = none }; proper = g }
-run {p} g (after-open {n = n} {w = w} {h = h} r p′ n′ w′ h′ post rest) =
-    let i : InStep (p .phase) (opens n w h) (toldPicture r) = rw post (open-step (p .phase) n w h) in
-    let k = run (i .stays g) rest in
-    record { demanded = call-then i (no-entry (accepts (stateOf (p .phase)) (opens n w h))) (k .demanded); proper = k .proper }
-run {p} g (after-row κs lights out lights′ out′ r p′ lit post rest) =
-    let c : Call = rows (now lights) (length (now out)) in
-    let i : InStep (p .phase) c (toldPicture r) = rw (post .0) (row-step (p .phase) (now lights) (length (now out))) in
-    let u : (n : ℕ) → heardOf (toldPicture r) ≡ refused n → now out′ ≡ now out = rw (post .0, post .1) (row-leaves (p .phase) (now lights) (now out)) in
-    let b : Blocks (keptBy (heardOf (toldPicture r)) (record { heard = heardOf (toldPicture r); before = now out; after = now out′ })) (entered (stateOf (p .phase)) c) = rw (post .0, post .1) (row-keeps (p .phase) (now lights) (now out) g lit) in
-    let k = run (i .stays g) rest in
-    record { demanded = row-then i u b (k .demanded); proper = k .proper }
-run {p} g (after-close r p′ post rest) =
-    let i : InStep (p .phase) closes (toldPicture r) = rw post (close-step (p .phase)) in
-    let k = run (i .stays g) rest in
-    record { demanded = call-then i (no-entry (accepts (stateOf (p .phase)) closes)) (k .demanded); proper = k .proper }
+-- ---- a list of calls
+
+module _ {card : Card} (does : Faithful card) where
+  abbrev at-phase : card .Picture → Phase
+  at-phase k = does .picture k .phase
+
+  -- from any picture that calls can reach
+  pub run : {k l : card .Picture} {cs : List Call} {hs : List Heard} {ls : List Lent} → Proper (at-phase k) → Ran card k cs hs ls l → After card (does .picture k) cs hs ls (does .picture l)
+  unfolding heardFrom entriesFrom stateFrom kept Unchanged
+  run g ends = record { demanded = record { heard = refl; state = refl; unchanged = tt; blocks = none }; proper = g }
+  run {k} g (after-open {p′ = k′} {n = n} {w = w} {h = h} {heard = heard} call rest) =
+      let s = does .opens call in
+      let i : InStep (does .picture k) (opens n w h) heard (does .picture k′) = rw (s .same, s .next) (open-step (at-phase k) n w h) in
+      call-then i (no-entry (accepts (stateOf (at-phase k)) (opens n w h))) (run (i .stays g) rest)
+  run {k} g (after-row {p′ = k′} {lights = lights} {out = out} {out′ = out′} {heard = heard} lit call rest) =
+      let s = does .rows call in
+      let c : Call = rows lights (length out) in
+      let i : InStep (does .picture k) c heard (does .picture k′) = rw (s .0 .same, s .0 .next) (row-step (at-phase k) lights (length out)) in
+      let u : (n : ℕ) → heard ≡ refused n → out′ ≡ out = rw (s .0 .same, s .1) (row-leaves (at-phase k) lights out) in
+      let b : Blocks card (keptBy heard (record { heard = heard; before = out; after = out′ })) (entered (stateOf (at-phase k)) c) = rw (s .0 .same, s .1) (row-keeps does (at-phase k) lights out g lit) in
+      row-then i u b (run (i .stays g) rest)
+  run {k} g (after-close {p′ = k′} {heard = heard} call rest) =
+      let s = does .closes call in
+      let i : InStep (does .picture k) closes heard (does .picture k′) = rw (s .same, s .next) (close-step (at-phase k)) in
+      call-then i (no-entry (accepts (stateOf (at-phase k)) closes)) (run (i .stays g) rest)
+
+  from-fresh : {cs : List Call} {hs : List Heard} {ls : List Lent} {l : card .Picture} → History card cs hs ls l → After card (at Fresh) cs hs ls (does .picture l)
+  from-fresh s =
+      let new = does .news (s .made) in
+      rw new at (run (subst (λ (p : Picture). Proper (p .phase)) (sym new) tt) (s .ran))
+
+  -- Demand 3, of a card that does what the definitions say
+  pub demanded : {cs : List Call} {hs : List Heard} {ls : List Lent} {l : card .Picture} → History card cs hs ls l → Demanded card fresh cs hs ls (stateOf (at-phase l))
+  demanded s = from-fresh s .demanded
+
+-- ---- this crate's card
+
+opens-so : {p p′ : Picture} {n w h : ℕ} {heard : Heard} → Opens p n w h heard p′ → Follows p (opening p n w h) heard p′
+opens-so (by-open r _ _ _ _ post) = rw (← post) record { same = refl; next = refl }
+
+rows-so : {p p′ : Picture} {lights out out′ : List ℕ} {heard : Heard} → Rows p lights out heard out′ p′ → Follows p (rowing p lights (length out)) heard p′ × (out′ ≡ bufferAfter p lights out)
+rows-so (by-row _ _ _ _ _ r _ post) = (rw (← post .0) record { same = refl; next = refl }, post .1)
+
+closes-so : {p p′ : Picture} {heard : Heard} → Closes p heard p′ → Follows p (closing p) heard p′
+closes-so (by-close r _ post) = rw (← post) record { same = refl; next = refl }
+
+reads-so : {bytes slice left : List ℕ} {r : Outcome Label} → Reads bytes slice r left → (r ≡ labelOf (headerOf bytes (length slice))) × (left ≡ sliceAfter bytes slice)
+reads-so (by-read-block _ _ _ _ _ r post) = (ap labelOf (post .0), post .1)
+
+faithful : Faithful card
+faithful = record {
+  picture = λ p. p;
+  news = λ made. made;
+  opens = opens-so;
+  rows = rows-so;
+  closes = closes-so;
+  reads = reads-so;
+}
 
 -- Demand 3.
-pub demand-3 : {cs : List Call} {hs : List Heard} {ls : List Lent} {q : Picture} → History cs hs ls q → Demanded fresh cs hs ls q
-demand-3 s = run tt (rw (s .made) at (s .ran)) .demanded
+pub demand-3 : {cs : List Call} {hs : List Heard} {ls : List Lent} {q : Picture} → History card cs hs ls q → Demanded card fresh cs hs ls (stateOf (q .phase))
+unfolding faithful
+demand-3 s = demanded faithful s
 
 -- no list of calls reaches a picture but these
-pub only-proper : {cs : List Call} {hs : List Heard} {ls : List Lent} {q : Picture} → History cs hs ls q → Proper (q .phase)
-only-proper s = run tt (rw (s .made) at (s .ran)) .proper
+pub only-proper : {cs : List Call} {hs : List Heard} {ls : List Lent} {q : Picture} → History card cs hs ls q → Proper (q .phase)
+unfolding faithful
+only-proper s = from-fresh faithful s .proper

@@ -1,56 +1,99 @@
--- Every list of calls has a history, so demand 3 speaks of all of them.
+-- Every list of calls has a history, whatever the lent buffers hold, so that demand 3 speaks of all of them.
 -- Assumes nothing.
 use Prim.Native.Nat.{ℕ}
-use mathlib.Core.Path.{refl, subst}
-use mathlib.Core.List.{List, [], _∷_}
-use lib.ListN.{length, replicate, length-replicate}
+use mathlib.Core.Path.{_≡_, refl, ap}
+use mathlib.Core.List.{List, [], _∷_, map}
+use lib.ListN.{length}
 use contract.Lifetimes.{Lfts}
 use denote.Ref.{RefT}
+use Rattle.exact.specs.Outcome.{Outcome}
+use Rattle.block.specs.Read.{sliceAfter}
+use Rattle.block.proofs.Tellable.{reading-tellable}
 use Rattle.picture.specs.declared.Phase.the-variants.{Fresh}
-use Rattle.picture.specs.declared.Picture.{Picture}
-use Rattle.picture.specs.Picture.{at, toldPicture, bufferAfter}
+use Rattle.picture.specs.Picture.{at, bufferAfter}
 use Rattle.picture.specs.Book.{Call, opens, rows, closes, Heard}
-use Rattle.picture.proofs.Calls.{heardOf, leads, Lent, Lights, Ran, ends, after-open, after-row, after-close, History}
-use Rattle.picture.proofs.Tellable.{answer, open-tellable, row-tellable, close-tellable}
+use Rattle.picture.proofs.Calls.{Label, Card, Lent, Lights, Ran, ends, after-open, after-row, after-close, History}
+use Rattle.picture.proofs.Card.{by-open, by-row, by-close, by-read-block, card}
+use Rattle.picture.proofs.Tellable.{answer, block-answer, open-tellable, row-tellable, close-tellable}
 
--- the lights of every row are 16-bit words
-unfoldable pub Words16 : List Call → Type 0
-Words16 [] = Unit {0}
-Words16 (opens n w h ∷ cs) = Words16 cs
-Words16 (rows lights room ∷ cs) = Lights lights × Words16 cs
-Words16 (closes ∷ cs) = Words16 cs
+-- every call on a card comes to something, whatever it is given
+pub record Answering (card : Card) : Type 0 where
+  pub news : (p : card .Picture) × card .New p
+  pub opens : (p : card .Picture) (n w h : ℕ) → (heard : Heard) × (p′ : card .Picture) × card .Open p n w h heard p′
+  pub rows : (p : card .Picture) (lights out : List ℕ) → (heard : Heard) × (out′ : List ℕ) × (p′ : card .Picture) × card .Row p lights out heard out′ p′
+  pub closes : (p : card .Picture) → (heard : Heard) × (p′ : card .Picture) × card .Close p heard p′
+  pub reads : (bytes slice : List ℕ) → (r : Outcome Label) × (left : List ℕ) × card .Read bytes slice r left
 
-abbrev lend : List ℕ → RefT (List ℕ)
+-- the buffers bs can be lent to the rows of the calls cs: each has the length that its call says, and the row's lights are 16-bit words
+pub data Lends : List Call → List (List ℕ) → Type 0 where
+  none : Lends [] []
+  at-open : {n w h : ℕ} {cs : List Call} {bs : List (List ℕ)} → Lends cs bs → Lends (opens n w h ∷ cs) bs
+  at-row : {lights out : List ℕ} {cs : List Call} {bs : List (List ℕ)} → Lights lights → Lends cs bs → Lends (rows lights (length out) ∷ cs) (out ∷ bs)
+  at-close : {cs : List Call} {bs : List (List ℕ)} → Lends cs bs → Lends (closes ∷ cs) bs
+
+abbrev pub before : List Lent → List (List ℕ)
+before ls = map (λ (l : Lent). l .before) ls
+
+-- a history of the calls cs with the buffers bs
+pub record Happens (card : Card) (cs : List Call) (bs : List (List ℕ)) : Type 0 where
+  pub hs : List Heard
+  pub ls : List Lent
+  pub q : card .Picture
+  pub history : History card cs hs ls q
+  pub lent : before ls ≡ bs
+
+module _ {card : Card} (calls : Answering card) where
+  record Runs (p : card .Picture) (cs : List Call) (bs : List (List ℕ)) : Type 0 where
+    hs : List Heard
+    ls : List Lent
+    q : card .Picture
+    ran : Ran card p cs hs ls q
+    lent : before ls ≡ bs
+
+  runs : {cs : List Call} {bs : List (List ℕ)} → Lends cs bs → (p : card .Picture) → Runs p cs bs
+  runs none p = record { hs = []; ls = []; q = p; ran = ends; lent = refl }
+  runs (at-open {n = n} {w = w} {h = h} rest) p =
+      let a = calls .opens p n w h in
+      let k = runs rest (a .1) in
+      record { hs = a .0 ∷ k .hs; ls = k .ls; q = k .q; ran = after-open (a .2) (k .ran); lent = k .lent }
+  runs (at-row {lights = lights} {out = out} lit rest) p =
+      let a = calls .rows p lights out in
+      let k = runs rest (a .2) in
+      record {
+        hs = a .0 ∷ k .hs;
+        ls = record { heard = a .0; before = out; after = a .1 } ∷ k .ls;
+        q = k .q;
+        ran = after-row lit (a .3) (k .ran);
+        lent = ap (λ (bs : List (List ℕ)). out ∷ bs) (k .lent);
+      }
+  runs (at-close rest) p =
+      let a = calls .closes p in
+      let k = runs rest (a .1) in
+      record { hs = a .0 ∷ k .hs; ls = k .ls; q = k .q; ran = after-close (a .2) (k .ran); lent = k .lent }
+
+  pub every-list-happens : {cs : List Call} {bs : List (List ℕ)} → Lends cs bs → Happens card cs bs
+  every-list-happens b =
+      let k = runs b (calls .news .0) in
+      record { hs = k .hs; ls = k .ls; q = k .q; history = record { start = calls .news .0; made = calls .news .1; ran = k .ran }; lent = k .lent }
+
+-- ---- this crate's card
+
+-- a reference to l, and the lifetimes of two: where it lies and how long it is lent, no contract asks
+abbrev pub lend : List ℕ → RefT (List ℕ)
 lend l = record { ptr = (0, 0); name = 0; now = l }
 
-record Some (p : Picture) (cs : List Call) : Type 0 where
-  hs : List Heard
-  ls : List Lent
-  q : Picture
-  ran : Ran p cs hs ls q
+abbrev pub lifetimes : Lfts 2
+lifetimes = ([], ([], tt))
 
-some : Lfts 2 → (p : Picture) (cs : List Call) → Words16 cs → Some p cs
-unfolding Words16
-some κs p [] t = record { hs = []; ls = []; q = p; ran = ends }
-some κs p (opens n w h ∷ cs) t =
-    let a = answer (open-tellable (p .phase) n w h) in
-    let k = some κs (leads p (toldPicture (a .change))) cs t in
-    record { hs = heardOf (toldPicture (a .change)) ∷ k .hs; ls = k .ls; q = k .q; ran = after-open (a .change) p n w h (a .told) (k .ran) }
-some κs p (rows lights room ∷ cs) t =
-    let blank : List ℕ = replicate room 0 in
-    let a = answer (row-tellable (p .phase) lights (length blank)) in
-    let k = some κs (leads p (toldPicture (a .change))) cs (t .1) in
-    let out : List ℕ = bufferAfter p lights blank in
-    let hs : List Heard = heardOf (toldPicture (a .change)) ∷ k .hs in
-    let ls : List Lent = record { heard = heardOf (toldPicture (a .change)); before = blank; after = out } ∷ k .ls in
-    let ran : Ran p (rows lights (length blank) ∷ cs) hs ls (k .q) = after-row κs (lend lights) (lend blank) (lend lights) (lend out) (a .change) p (t .0) (a .told, refl) (k .ran) in
-    record { hs = hs; ls = ls; q = k .q; ran = subst (λ (n : ℕ). Ran p (rows lights n ∷ cs) hs ls (k .q)) (length-replicate room 0) ran }
-some κs p (closes ∷ cs) t =
-    let a = answer (close-tellable (p .phase)) in
-    let k = some κs (leads p (toldPicture (a .change))) cs t in
-    record { hs = heardOf (toldPicture (a .change)) ∷ k .hs; ls = k .ls; q = k .q; ran = after-close (a .change) p (a .told) (k .ran) }
-
-pub happens : Lfts 2 → (cs : List Call) → Words16 cs → (hs : List Heard) × (ls : List Lent) × (q : Picture) × History cs hs ls q
-happens κs cs t =
-    let k = some κs (at Fresh) cs t in
-    (k .hs, k .ls, k .q, record { start = at Fresh; made = refl; ran = k .ran })
+pub answering : Answering card
+answering = record {
+  news = (at Fresh, refl);
+  opens = λ p n w h. let a = answer (open-tellable (p .phase) n w h) in (_, _, by-open (a .change) p n w h (a .told));
+  rows = λ p lights out.
+      let a = answer (row-tellable (p .phase) lights (length out)) in
+      (_, _, _, by-row lifetimes (lend lights) (lend out) (lend lights) (lend (bufferAfter p lights out)) (a .change) p (a .told, refl));
+  closes = λ p. let a = answer (close-tellable (p .phase)) in (_, _, by-close (a .change) p (a .told));
+  reads = λ bytes slice.
+      let a = block-answer (reading-tellable bytes (length slice)) in
+      (_, _, by-read-block lifetimes (lend bytes) (lend slice) (lend bytes) (lend (sliceAfter bytes slice)) (a .read) (a .told, refl));
+}

@@ -1,6 +1,9 @@
 mod Ranges
+pub mod Agreement
 pub mod Calls
+pub mod Card
 pub mod Claims
+pub mod Faithful
 mod Neighbours
 mod Rows
 pub mod Steps

@@ -4,7 +4,6 @@ use Prim.Native.Nat.{ℕ, _+_, _*_, _-_, _≤_, _<_}
 use mathlib.Core.Path.{_≡_, subst}
 use mathlib.Core.Logic.{_⊎_, inl, inr}
 use native.Mathlib.Omega.{arith}
-use borrow.Author.Tests.{le-leb, lt-leb}
 use Rattle.exact.proofs.Order.{below-or-not}
 use Rattle.systems.specs.declared.System.{System}
 use Rattle.systems.specs.Systems.{scale}
@@ -41,15 +40,7 @@ module _ (y : System) (k d : ℕ) (light : k ≤ fullLight) (nominal : Nominal y
 
 module _ (y : System) (k d : ℕ) (light : k ≤ fullLight) (nominal : Nominal y d) (near : WithinOne d (code y k)) where
   pub from-below : leastLight y (below y d) ≤ k
-  from-below = go (below-or-not (16 * scale y) d)
-    where
-      go : (16 * scale y < d) ⊎ (d ≤ 16 * scale y) → leastLight y (below y d) ≤ k
-      go (inl h) = rw (lt-leb d (16 * scale y) h, below) (least-before y k (d - 1) light (omega arith) (omega arith))
-      go (inr h) = rw (le-leb d (16 * scale y) h, below) (least-before y k d light nominal (omega (arith, code-low y k)))
+  from-below = least-before y k (below y d) light (omega arith) (omega (arith, code-low y k))
 
   pub to-above : k ≤ greatestLight y (above y d)
-  to-above = go (below-or-not d (235 * scale y))
-    where
-      go : (d < 235 * scale y) ⊎ (235 * scale y ≤ d) → k ≤ greatestLight y (above y d)
-      go (inl h) = rw (lt-leb (235 * scale y) d h, above) (greatest-after y k (d + 1) light (omega arith) (omega arith))
-      go (inr h) = rw (le-leb (235 * scale y) d h, above) (greatest-after y k d light nominal (omega (arith, code-high y k)))
+  to-above = greatest-after y k (above y d) light (omega arith) (omega (arith, code-high y k))

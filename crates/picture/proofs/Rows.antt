@@ -8,7 +8,6 @@ use mathlib.Core.List.{List, [], _∷_, _++_}
 use native.Mathlib.Omega.{arith}
 use lib.ListN.{length, getD, drop, List·getD-append}
 use lib.Seq.{getD-append-add}
-use denote.Ref.{now}
 use borrow.Author.Tests.{le-leb}
 use Rattle.exact.specs.Outcome.{accepted}
 use Rattle.exact.proofs.Order.{below-or-not}
@@ -33,8 +32,10 @@ use Rattle.block.proofs.Decoding.{length-codes}
 use Rattle.block.proofs.ReadBack.{NominalRow, block-length, block-samples, block-reads-back, block-decodes-back}
 use Rattle.row.specs.Row.{sampleCodes, sampleWords, listed, rowBlock}
 use Rattle.row.proofs.Sections.{length-listed}
-use Rattle.picture.proofs.Calls.{Lights}
+use Rattle.picture.proofs.Calls.{Card, Lights}
+use Rattle.picture.proofs.Card.{labelOf}
 use Rattle.picture.proofs.Claims.{WithinOne, ReadCode, StoredSample, codesOf, ReadsBack}
+use Rattle.picture.proofs.Faithful.{Faithful}
 use Rattle.picture.proofs.Neighbours.{from-below, to-above}
 
 -- ---- lists
@@ -193,16 +194,15 @@ module _ (y : System) (r w : ℕ) (lights : List ℕ) (some : 1 ≤ w) (most : w
       List·getD-append (codesTo row w) (drop (3 * w) slice) 0 j (omega (arith, length-codes row w)) in
       rw same record { near = good .0; from = from-below y _ _ (lit j) (good .1) (good .0); to = to-above y _ _ (lit j) (good .1) (good .0) }
 
-  pub reads-back : Lights lights → ReadsBack (rowBlock y r w lights) (record { system = number y; width = w; row = r; lights = lights })
+  pub reads-back : {card : Card} → Faithful card → Lights lights → ReadsBack card (rowBlock y r w lights) (record { system = number y; width = w; row = r; lights = lights })
   unfolding header
-  reads-back lit = record {
+  reads-back does lit = record {
     system = y;
     numbered = refl;
     size = size;
     words = words;
-    reads = λ κs bytes₀ codes₀ bytes₁ codes₁ a same room post.
-        let slice = now codes₀ in
-        let told = post .0 ∙ ap (λ (b : List ℕ). headerOf b (length slice)) same ∙ heard (length slice) room in
-        let kept = post .1 ∙ ap (λ (b : List ℕ). sliceAfter b slice) same ∙ left slice room in
-        record { header = header; heard = told; system = refl; width = refl; row = refl; codes = λ j h. rw kept (codes lit slice j h) };
+    reads = λ {slice} room given. record {
+      told = does .reads given .0 ∙ ap labelOf (heard (length slice) room);
+      codes = λ j h. rw (does .reads given .1 ∙ left slice room) (codes lit slice j h);
+    };
   }

@@ -7,7 +7,7 @@ use mathlib.Core.List.{List}
 use native.Mathlib.Omega.{arith}
 use lib.Dec.{ltb, leb, eqb}
 use lib.ListN.{length}
-use borrow.Author.Tests.{le-ltb, lt-ltb, le-leb, lt-leb, eqb-true, eqb-false, leb-true, leb-false, ltb-true, ltb-false}
+use borrow.Author.Tests.{eqb-true, eqb-false, leb-true, ltb-true}
 use Rattle.exact.specs.Outcome as outcome
 use Rattle.exact.specs.Outcome.{Outcome, _and-then_}
 use Rattle.systems.specs.declared.System.{System}
@@ -18,25 +18,20 @@ use Rattle.picture.specs.declared.Phase.{Phase}
 use Rattle.picture.specs.declared.Phase.the-variants.{Fresh, Open, Closed}
 use Rattle.picture.specs.declared.Picture.{Picture}
 use Rattle.picture.specs.Picture.{at, beginIn, begin, openFrom, blockLength, rowOpen, rowFrom, closeFrom}
-use Rattle.picture.specs.Book.{Call, opens, rows, closes, opened, accepted, refused, among, choose, hears, next}
-use Rattle.picture.proofs.Calls.{heardOf, leads}
+use Rattle.picture.specs.Book.{Call, opens, rows, closes, opened, Heard, accepted, refused, among, choose, hears, next}
+use Rattle.picture.proofs.Agreement.{split, at-least-is-not-below, below-is-not-at-least}
+use Rattle.picture.proofs.Card.{heardOf, leads}
 use Rattle.picture.proofs.Claims.{stateOf, Proper}
 
--- the answer o to the call c is the book's, it leads where the book's next state is, and to a picture that calls can reach
-pub record InStep (f : Phase) (c : Call) (o : Outcome Picture) : Type 0 where
-  pub same : heardOf o ≡ hears (stateOf f) c
-  pub leads-on : stateOf (leads (at f) o .phase) ≡ next (stateOf f) c
-  pub stays : Proper f → Proper (leads (at f) o .phase)
+-- what is heard of the call c is the book's, and it leads to where the book's next state is, a picture that calls can reach
+pub record InStep (p : Picture) (c : Call) (heard : Heard) (p′ : Picture) : Type 0 where
+  pub same : heard ≡ hears (stateOf (p .phase)) c
+  pub leads-on : stateOf (p′ .phase) ≡ next (stateOf (p .phase)) c
+  pub stays : Proper (p .phase) → Proper (p′ .phase)
 
-pub split : {P : Type 0} (b : Bool) → (b ≡ true → P) → (b ≡ false → P) → P
-split true f g = f refl
-split false f g = g refl
-
-at-least-is-not-below : (a b : ℕ) → leb b a ≡ not (ltb a b)
-at-least-is-not-below a b = split (leb b a) (λ t. simp (t, le-ltb a b (leb-true b a t))) (λ t. simp (t, lt-ltb a b (leb-false b a t)))
-
-below-is-not-at-least : (a b : ℕ) → ltb a b ≡ not (leb b a)
-below-is-not-at-least a b = split (ltb a b) (λ t. simp (t, lt-leb b a (ltb-true a b t))) (λ t. simp (t, le-leb b a (ltb-false a b t)))
+-- so it is where the call comes to o
+abbrev pub StepsTo : Phase → Call → Outcome Picture → Type 0
+StepsTo f c o = InStep (at f) c (heardOf o) (leads (at f) o)
 
 -- ---- open
 
@@ -65,8 +60,7 @@ beginAs k w h = k and-then λ y. beginIn y w h
 
 -- an open where none is open, and the book's lines for it; t says whether n is 1 to 4
 record Begins (f : Phase) (n w h : ℕ) (k : Outcome System) (t : Bool) : Type 0 where
-  same : heardOf (beginAs k w h)
-      ≡ choose (t && (among 1 7680 w && among 1 4320 h)) accepted (refused (choose (not t) 1 (choose (not (among 1 7680 w)) 2 (choose (not (among 1 4320 h)) 3 0))))
+  same : heardOf (beginAs k w h) ≡ choose (not t) (refused 1) (choose (not (among 1 7680 w)) (refused 2) (choose (not (among 1 4320 h)) (refused 3) accepted))
   leads-on : stateOf (leads (at f) (beginAs k w h) .phase)
       ≡ choose (t && (among 1 7680 w && among 1 4320 h)) (opened (record { system = n; width = w; height = h; count = 0 })) (stateOf f)
   stays : Proper f → Proper (leads (at f) (beginAs k w h) .phase)
@@ -89,7 +83,7 @@ begins f n w h (names y e) =
     (λ b. record { same = simp (a, b); leads-on = simp (a, b); stays = λ g. simp (a, b) g }))
     (λ a. record { same = simp a; leads-on = simp a; stays = λ g. simp a g })
 
-pub open-step : (f : Phase) (n w h : ℕ) → InStep f (opens n w h) (openFrom f n w h)
+pub open-step : (f : Phase) (n w h : ℕ) → StepsTo f (opens n w h) (openFrom f n w h)
 unfolding begin
 open-step Fresh n w h = let b = begins Fresh n w h (named-in-range n) in record { same = b .same; leads-on = b .leads-on; stays = b .stays }
 open-step (Open o) n w h = record { same = refl; leads-on = refl; stays = λ g. g }
@@ -97,7 +91,7 @@ open-step Closed n w h = let b = begins Closed n w h (named-in-range n) in recor
 
 -- ---- row
 
-pub row-step : (f : Phase) (lights : List ℕ) (room : ℕ) → InStep f (rows lights room) (rowFrom f lights room)
+pub row-step : (f : Phase) (lights : List ℕ) (room : ℕ) → StepsTo f (rows lights room) (rowFrom f lights room)
 unfolding rowOpen
 row-step Fresh lights room = record { same = refl; leads-on = refl; stays = λ g. g }
 row-step (Open o) lights room =
@@ -107,7 +101,7 @@ row-step (Open o) lights room =
     (λ a. split (eqb (length lights) (3 * o .width))
     (λ b. split (leb (blockLength (o .width)) room)
     (λ c. record {
-      same = simp (a, b, c);
+      same = simp (full, short, a, b, c);
       leads-on = simp (a, b, c);
       stays = λ g. let lt = ltb-true (o .rows) (o .height) a in simp (a, b, c)
           record { width-from = g .width-from; width-to = g .width-to; height-from = g .height-from; height-to = g .height-to; rows-to = omega arith };
@@ -119,7 +113,7 @@ row-step Closed lights room = record { same = refl; leads-on = refl; stays = λ 
 
 -- ---- close
 
-pub close-step : (f : Phase) → InStep f closes (closeFrom f)
+pub close-step : (f : Phase) → StepsTo f closes (closeFrom f)
 close-step Fresh = record { same = refl; leads-on = refl; stays = λ g. g }
 close-step (Open o) =
     split (eqb (o .rows) (o .height))

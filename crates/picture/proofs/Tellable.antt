@@ -1,4 +1,4 @@
--- What a call on a picture comes to can always be told.
+-- What a call on a picture, or a reading, comes to can always be told.
 -- Assumes nothing.
 use Prim.Native.Nat.{ℕ, _*_}
 use mathlib.Core.Path.{_≡_, refl}
@@ -8,7 +8,10 @@ use lib.ListN.{length}
 use Rattle.exact.specs.Outcome.{Outcome}
 use Rattle.systems.specs.declared.refusal.Refusal.the-variants as refusal
 use Rattle.systems.proofs.Tellable.{Tellable, values, refusing, tested, followed, named-tellable}
-use Rattle.block.specs.Read.{widthOk}
+use Rattle.block.specs.declared.Header.{Header}
+use Rattle.block.specs.declared.BlockRead.{BlockRead}
+use Rattle.block.specs.declared.BlockRead.the-variants as read
+use Rattle.block.specs.Read.{widthOk, toldHeader}
 use Rattle.picture.specs.declared.Phase.{Phase}
 use Rattle.picture.specs.declared.Phase.the-variants.{Fresh, Open, Closed}
 use Rattle.picture.specs.declared.Picture.{Picture}
@@ -24,6 +27,14 @@ pub record Answer (o : Outcome Picture) : Type 0 where
 pub answer : {o : Outcome Picture} → Tellable o → Answer o
 answer (values p) = record { change = change.To p; told = refl }
 answer (refusing r) = record { change = change.Refused r; told = refl }
+
+pub record BlockAnswer (o : Outcome Header) : Type 0 where
+  pub read : BlockRead
+  pub told : toldHeader read ≡ o
+
+pub block-answer : {o : Outcome Header} → Tellable o → BlockAnswer o
+block-answer (values h) = record { read = read.Row h; told = refl }
+block-answer (refusing r) = record { read = read.Refused r; told = refl }
 
 begin-tellable : (n w h : ℕ) → Tellable (begin n w h)
 unfolding begin

@@ -1,8 +1,9 @@
 -- The calls' own statements and the claim on lists of them, in one.
 -- Assumes nothing.
+use Prim.Native.Nat.{ℕ}
 use mathlib.Core.List.{List}
 use Rattle.picture.specs.declared.Picture.{Picture}
-use Rattle.picture.specs.Book.{Call, Heard, fresh}
+use Rattle.picture.specs.Book.{Call, State, fresh, Heard, accepts, hears}
 use Rattle.picture.proofs.Picture.new.Statement as new-statement
 use Rattle.picture.proofs.Picture.new.Met as new-met
 use Rattle.picture.proofs.Picture.open.Statement as open-statement
@@ -13,18 +14,37 @@ use Rattle.picture.proofs.Picture.close.Statement as close-statement
 use Rattle.picture.proofs.Picture.close.Met as close-met
 use Rattle.block.proofs.read_block.Statement as read-statement
 use Rattle.block.proofs.read_block.Met as read-met
+use Rattle.picture.proofs.Agreement.{Agree, accepts-unless-a-condition-holds}
 use Rattle.picture.proofs.Calls.{Lent, History}
-use Rattle.picture.proofs.Claims.{Demanded}
+use Rattle.picture.proofs.Card.{card}
+use Rattle.picture.proofs.Claims.{stateOf, Demanded}
 use Rattle.picture.proofs.Demand.{demand-3}
+use Rattle.picture.proofs.Histories.{Lends, Happens, Answering, answering, every-list-happens}
 
--- each `Post` in a history and in a reading is that of a contract which the routine meets
+-- each `Post` of the card is that of a contract which the routine meets
 pub record Whole : Type 3 where
   pub new : {M : Type 1} → new-statement.statement M
   pub opens : {M : Type 1} → open-statement.statement M
   pub rows : {M : Type 1} → row-statement.statement M
   pub closes : {M : Type 1} → close-statement.statement M
   pub reads : {M : Type 1} → read-statement.statement M
-  pub lists : {cs : List Call} {hs : List Heard} {ls : List Lent} {q : Picture} → History cs hs ls q → Demanded fresh cs hs ls q
+  -- demand 3
+  pub lists : {cs : List Call} {hs : List Heard} {ls : List Lent} {q : Picture} → History card cs hs ls q → Demanded card fresh cs hs ls (stateOf (q .phase))
+  -- it speaks of every list of calls, whatever the lent buffers hold, and of every reading
+  pub happens : {cs : List Call} {bs : List (List ℕ)} → Lends cs bs → Happens card cs bs
+  pub answers : Answering card
+  -- the row book accepts a call exactly where none of its tables' conditions holds
+  pub book : (st : State) (c : Call) → Agree (accepts st c) (hears st c)
 
 pub whole : Whole
-whole = record { new = new-met.met; opens = open-met.met; rows = row-met.met; closes = close-met.met; reads = read-met.met; lists = demand-3 }
+whole = record {
+  new = new-met.met;
+  opens = open-met.met;
+  rows = row-met.met;
+  closes = close-met.met;
+  reads = read-met.met;
+  lists = demand-3;
+  happens = every-list-happens answering;
+  answers = answering;
+  book = accepts-unless-a-condition-holds;
+}

@@ -85,10 +85,10 @@ abbrev pub choose : {A : Type 0} → Bool → A → A → A
 choose true a b = a
 choose false a b = b
 
--- the number of the first condition that holds
-abbrev pub first : List Condition → ℕ
-first [] = 0
-first (c ∷ cs) = choose (c .holds) (c .number) (first cs)
+-- what is heard where conditions are tested in order: the number of the first that holds, or accepted where none does
+abbrev pub judged : List Condition → Heard
+judged [] = accepted
+judged (c ∷ cs) = choose (c .holds) (refused (c .number)) (judged cs)
 
 -- what an accepted call makes of the book, and the entry that it makes
 abbrev pub moves : State → Call → State
@@ -106,7 +106,7 @@ abbrev pub next : State → Call → State
 next st c = choose (accepts st c) (moves st c) st
 
 abbrev pub hears : State → Call → Heard
-hears st c = choose (accepts st c) accepted (refused (first (conditions st c)))
+hears st c = judged (conditions st c)
 
 unfoldable pub heardFrom : State → List Call → List Heard
 heardFrom st [] = []

@@ -1,0 +1,30 @@
+-- A card whose calls do what the definitions of the picture's calls and of a block's reading say.
+-- Definitions only.
+use Prim.Native.Nat.{ℕ}
+use mathlib.Core.Path.{_≡_}
+use mathlib.Core.List.{List}
+use lib.ListN.{length}
+use Rattle.exact.specs.Outcome.{Outcome}
+use Rattle.block.specs.Read.{headerOf, sliceAfter}
+use Rattle.picture.specs.declared.Phase.the-variants.{Fresh}
+use Rattle.picture.specs.declared.Picture.{Picture}
+use Rattle.picture.specs.Picture.{at, opening, rowing, bufferAfter, closing}
+use Rattle.picture.specs.Book.{Heard}
+use Rattle.picture.proofs.Calls.{Label, Card}
+use Rattle.picture.proofs.Card.{heardOf, leads, labelOf}
+
+-- a call on p that comes to o was heard so, and gave the next call the picture p′
+pub record Follows (p : Picture) (o : Outcome Picture) (heard : Heard) (p′ : Picture) : Type 0 where
+  pub same : heard ≡ heardOf o
+  pub next : p′ ≡ leads p o
+
+pub record Faithful (card : Card) : Type 0 where
+  -- the picture that a caller's stands for
+  pub picture : card .Picture → Picture
+  pub news : {k : card .Picture} → card .New k → picture k ≡ at Fresh
+  pub opens : {k k′ : card .Picture} {n w h : ℕ} {heard : Heard} → card .Open k n w h heard k′ → Follows (picture k) (opening (picture k) n w h) heard (picture k′)
+  pub rows : {k k′ : card .Picture} {lights out out′ : List ℕ} {heard : Heard} → card .Row k lights out heard out′ k′
+      → Follows (picture k) (rowing (picture k) lights (length out)) heard (picture k′) × (out′ ≡ bufferAfter (picture k) lights out)
+  pub closes : {k k′ : card .Picture} {heard : Heard} → card .Close k heard k′ → Follows (picture k) (closing (picture k)) heard (picture k′)
+  pub reads : {bytes slice left : List ℕ} {r : Outcome Label} → card .Read bytes slice r left
+      → (r ≡ labelOf (headerOf bytes (length slice))) × (left ≡ sliceAfter bytes slice)

@@ -18,9 +18,9 @@ use Rattle.systems.specs.declared.Range.{Range}
 use Rattle.matrix.specs.declared.Clipped.{Clipped}
 use Rattle.matrix.specs.declared.Words.{Words}
 use Rattle.matrix.specs.Triples.{whole, clipped, beyond, codesAt}
-use Rattle.matrix.specs.Rows.{TwelveBitWords, unclippedAt}
+use Rattle.matrix.specs.Inner.{TwelveBitWords, unclippedAt}
 use Rattle.matrix.proofs.DecodingRows.{unclipped-small}
-use Rattle.block.specs.Steps.{biased, unbiased, biasedTriple, Clippable, oneOf, atLeast, atMost}
+use Rattle.block.specs.Inner.{biased, unbiased, biasedTriple, Clippable, oneOf, atLeast, atMost}
 
 pub biased-is : (z : ℤ) → natAbs z ≤ 2 ^ 14 → (z +ℤ pos 16384 ≡ pos (biased z)) × (biased z ≤ 2 ^ 15)
 biased-is (pos a) h = (refl, omega arith)

@@ -12,10 +12,10 @@ use Rattle.systems.specs.declared.Range.{Range}
 use Rattle.matrix.specs.declared.Clipped.{Clipped}
 use Rattle.matrix.specs.declared.Words.{Words}
 use Rattle.matrix.specs.Triples.{clipped, beyond}
-use Rattle.matrix.specs.Rows.{NominalWords, unclippedAt}
+use Rattle.matrix.specs.Inner.{NominalWords, unclippedAt}
 use Rattle.matrix.proofs.Tested.{twelve-bits}
 use Rattle.block.specs.Read.{decoded, listed, codesTo, clippedTo}
-use Rattle.block.specs.Steps.{unbiased, biasedTriple, biasedRow, listedTo, clippedAll, beyondAll}
+use Rattle.block.specs.Inner.{unbiased, biasedTriple, biasedRow, listedTo, clippedAll, beyondAll}
 use Rattle.block.proofs.Bias.{codes-from-biased}
 use Rattle.block.proofs.Decoding.{length-listed}
 

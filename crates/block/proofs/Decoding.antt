@@ -10,7 +10,7 @@ use lib.Seq.{sets, sets-eq, take-at, drop-append-add, drop-drop}
 use Rattle.systems.specs.declared.Codes.{Codes}
 use Rattle.matrix.specs.declared.Clipped.{Clipped}
 use Rattle.block.specs.Read.{listed, codesTo}
-use Rattle.block.specs.Steps.{listedTo}
+use Rattle.block.specs.Inner.{listedTo}
 
 module _ (row : ℕ → Codes) where
   pub length-listed : (n : ℕ) → length (listedTo row n) ≡ 3 * n

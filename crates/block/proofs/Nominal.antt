@@ -11,6 +11,7 @@ use native.Mathlib.Omega.{arith}
 use lib.Dec.{ltb, eqb}
 use mir.Val.{boolByte}
 use borrow.Author.Tests.{le-leb, lt-leb, lt-ltb, le-ltb, eqb-true, eqb-false, ne-eqb}
+use Rattle.exact.proofs.Boolean.{bit-small}
 use Rattle.exact.proofs.Order.{below-or-not}
 use Rattle.systems.specs.declared.Range.{Range}
 use Rattle.systems.specs.declared.System.{System}
@@ -18,7 +19,7 @@ use Rattle.systems.specs.Systems.{within, nominal, nominalDifference}
 use Rattle.matrix.specs.declared.Words.{Words}
 use Rattle.matrix.specs.Triples.{wordsWithin}
 use Rattle.block.specs.Read.{fieldAt, sampleAt, nominalTo}
-use Rattle.block.specs.Steps.{inRange}
+use Rattle.block.specs.Inner.{inRange}
 
 -- how often w is outside a range
 abbrev pub misses : Range → ℕ → ℕ
@@ -45,12 +46,8 @@ none-of-three a b c = none-more (a + b) c (eqb c 0) (eqb-true c 0) (λ e. above 
     above zero h = absurd (h refl)
     above (suc n) h = omega arith
 
-bit : (t : Bool) → boolByte t ≤ 1
-bit true = omega arith
-bit false = omega arith
-
 pub misses-small : (r : Range) (w : ℕ) → misses r w ≤ 2
-misses-small r w = omega (arith, bit (ltb w (r .low)), bit (ltb (r .high) w))
+misses-small r w = omega (arith, bit-small (ltb w (r .low)), bit-small (ltb (r .high) w))
 
 within-misses : (r : Range) (w : ℕ) → (within r w ≡ true → misses r w ≡ 0) × (within r w ≡ false → 0 < misses r w)
 within-misses r w = go (below-or-not w (r .low)) (below-or-not (r .high) w)

@@ -16,7 +16,7 @@ use Rattle.matrix.proofs.Tested.{nominal-words}
 use Rattle.block.specs.declared.Header.{Header}
 use Rattle.block.specs.declared.Walked.{Walked}
 use Rattle.block.specs.Read.{fieldAt, walk, sampleAt, nominalTo, rowOf, codesTo, clippedTo, headerOf, sliceBy, sliceAfter}
-use Rattle.block.specs.Steps.{Decodable}
+use Rattle.block.specs.Inner.{Decodable}
 use Rattle.block.proofs.Walking.{passed, walk-accepted}
 use Rattle.block.proofs.Nominal.{nominal-at}
 use Rattle.block.proofs.Decoding.{length-codes, length-kept}

@@ -17,7 +17,7 @@ use Rattle.systems.specs.Systems.{named, within}
 use Rattle.block.specs.declared.Counted.{Counted}
 use Rattle.block.specs.declared.Walked.{Walked}
 use Rattle.block.specs.Read.{fieldAt, sectionAt, widthOk, sections, walk}
-use Rattle.block.specs.Steps.{toldCount}
+use Rattle.block.specs.Inner.{toldCount}
 use Rattle.block.proofs.Nominal.{each}
 
 -- the range of one count

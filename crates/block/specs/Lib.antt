@@ -1,3 +1,3 @@
 pub mod Block
 pub mod Read
-pub mod Steps
+pub mod Inner

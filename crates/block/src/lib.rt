@@ -31,7 +31,7 @@ ghost use Rattle.systems.specs.Systems.{scale, within};
 ghost use Rattle.matrix.specs.Triples.{clipped, beyond};
 ghost use Rattle.block.specs.Block.{size};
 ghost use Rattle.block.specs.Read.{fieldAt, sectionAt, sections, walk, sampleAt, nominalTo, listed, codesTo, clippedTo, rowOf, headerOf, sliceAfter, toldHeader};
-ghost use Rattle.block.specs.Steps.{toldCount, toldWalk, inRange, Decodable, biased, unbiased, BiasFits, biasedTriple, biasedRow, listedTo, Clippable, atLeast, atMost, clippedAll, beyondAll};
+ghost use Rattle.block.specs.Inner.{toldCount, toldWalk, inRange, Decodable, biased, unbiased, BiasFits, biasedTriple, biasedRow, listedTo, Clippable, atLeast, atMost, clippedAll, beyondAll};
 
 // What a block says of its row, and how many components were clipped in its codes.
 pub struct Header {

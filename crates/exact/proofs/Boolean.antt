@@ -1,9 +1,16 @@
--- A test that is made of others, taken apart.
+-- A test as a number, and a test that is made of others, taken apart.
 -- Assumes nothing.
 use mathlib.Core.Path.{_≡_, refl, sym, subst}
 use mathlib.Core.Bool.{Bool, true, false, _&&_, _||_, false≢true}
 use mathlib.Core.Logic.{_⊎_, inl, inr}
+use Prim.Native.Nat.{_≤_}
+use native.Mathlib.Omega.{arith}
 use lib.Dec.{T}
+use mir.Val.{boolByte}
+
+pub bit-small : (t : Bool) → boolByte t ≤ 1
+bit-small true = omega arith
+bit-small false = omega arith
 
 pub holds : {b : Bool} → b ≡ true → T b
 holds e = subst T (sym e) tt

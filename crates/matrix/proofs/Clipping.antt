@@ -18,7 +18,7 @@ use Rattle.systems.specs.declared.Matrix.{Matrix}
 use Rattle.systems.specs.declared.Range.{Range}
 use Rattle.matrix.specs.declared.Words.{Words}
 use Rattle.matrix.specs.Triples.{redOf, greenOf, blueOf, whole, clipped, beyond, codesAt}
-use Rattle.matrix.specs.Rows.{NominalCodes}
+use Rattle.matrix.specs.Inner.{NominalCodes}
 
 inside : (v : ℤ) (low high : ℕ) → ltZ v (pos low) ≡ false → ltZ (pos high) v ≡ false → (low ≤ whole v) × (whole v ≤ high)
 inside (pos n) low high l h = (ltb-false n low l, ltb-false high n h)

@@ -10,7 +10,7 @@ use Rattle.exact.specs.Signed.{rounded}
 use Rattle.exact.proofs.Difference.{pos-sub, neg-sub, sub-add, sub-minus, sub-mul, sub-eq}
 use Rattle.exact.proofs.Machine.{natAbs-less, natAbs-mul-le}
 use Rattle.exact.proofs.Nearest.{rounds}
-use Rattle.matrix.specs.Rows.{unit, fixed}
+use Rattle.matrix.specs.Inner.{unit, fixed}
 use Rattle.matrix.proofs.FixedPoint.{rounds-as-exact}
 
 -- what the steps can be short in all

@@ -15,7 +15,7 @@ use Rattle.systems.specs.Systems.{kr, kg, kb}
 use Rattle.exact.specs.Signed.{rounded}
 use Rattle.matrix.specs.declared.Words.{Words}
 use Rattle.matrix.specs.Triples.{primary, signed, redOf, greenOf, blueOf}
-use Rattle.matrix.specs.Rows.{TwelveBitWords, Small, dotted, unit, fixed, reach, decodingRows, fromFixed, unclippedAt}
+use Rattle.matrix.specs.Inner.{TwelveBitWords, Small, dotted, unit, fixed, reach, decodingRows, fromFixed, unclippedAt}
 use Rattle.matrix.proofs.Fractions.{signed-by, primary-rounds, green-rounds}
 use Rattle.matrix.proofs.FixedPoint.{rounds-as-exact}
 

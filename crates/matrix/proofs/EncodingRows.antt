@@ -14,7 +14,7 @@ use Rattle.systems.specs.declared.Matrix.{Matrix}
 use Rattle.systems.specs.declared.Matrix.the-variants.{Bt709, Bt2020}
 use Rattle.systems.specs.Systems.{kr, kg, kb}
 use Rattle.matrix.specs.Triples.{weighted, difference}
-use Rattle.matrix.specs.Rows.{NominalCodes, Small, dotted, encodingRows, colourDifference}
+use Rattle.matrix.specs.Inner.{NominalCodes, Small, dotted, encodingRows, colourDifference}
 
 -- what the rows multiply
 abbrev pub column : Codes → List ℤ

@@ -9,7 +9,7 @@ use lib.IntN.{ℤ, pos, subℕ, _+ℤ_}
 use lib.Signed.{shrZ}
 use Rattle.exact.proofs.Difference.{pos-sub, sub-add}
 use Rattle.exact.proofs.Nearest.{Rounds, floor-is}
-use Rattle.matrix.specs.Rows.{unit, fixed}
+use Rattle.matrix.specs.Inner.{unit, fixed}
 
 -- the bits of a fraction in two parts
 abbrev pub high : ℕ

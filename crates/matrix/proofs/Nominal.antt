@@ -18,7 +18,7 @@ use Rattle.systems.specs.declared.System.{System}
 use Rattle.systems.specs.Systems.{matrix, scale, kr, kb, nominal, allWithin, timing}
 use Rattle.systems.proofs.Scales.{scale-range}
 use Rattle.matrix.specs.Triples.{weighted, luma, cbOf, crOf, whole, wordsAt}
-use Rattle.matrix.specs.Rows.{NominalCodes, NominalWords}
+use Rattle.matrix.specs.Inner.{NominalCodes, NominalWords}
 use Rattle.matrix.proofs.Fractions.{luma-rounds, difference-rounds}
 use Rattle.matrix.proofs.Tested.{nominal-codes}
 

@@ -6,7 +6,7 @@ use native.Mathlib.Omega.{arith}
 use lib.IntN.{ℤ, pos, natAbs, _+ℤ_, _*ℤ_}
 use lib.ListN.{getD}
 use Rattle.exact.proofs.Machine.{natAbs-add, natAbs-mul-le}
-use Rattle.matrix.specs.Rows.{Small, dotted}
+use Rattle.matrix.specs.Inner.{Small, dotted}
 
 abbrev pub product : List ℤ → List ℤ → ℕ → ℤ
 product row t k = getD row k (pos 0) *ℤ getD t k (pos 0)

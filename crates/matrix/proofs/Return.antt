@@ -15,7 +15,7 @@ use Rattle.systems.specs.declared.Matrix.the-variants.{Bt709, Bt2020}
 use Rattle.systems.specs.Systems.{kr, kb}
 use Rattle.matrix.specs.declared.Words.{Words}
 use Rattle.matrix.specs.Triples.{redOf, greenOf, blueOf, wordsAt, codesAt}
-use Rattle.matrix.specs.Rows.{NominalCodes}
+use Rattle.matrix.specs.Inner.{NominalCodes}
 use Rattle.matrix.proofs.Fractions.{primary-rounds, green-rounds}
 use Rattle.matrix.proofs.Nominal.{WordsOf, words-of, words-are}
 use Rattle.matrix.proofs.Clipping.{OffByOne, clipped-nearer, kept-whole}

@@ -14,7 +14,7 @@ use Rattle.systems.specs.Systems.{scale, nominal, nominalDifference, within, al
 use Rattle.systems.proofs.Ranges.{all-nominal}
 use Rattle.matrix.specs.declared.Words.{Words}
 use Rattle.matrix.specs.Triples.{wordsWithin}
-use Rattle.matrix.specs.Rows.{NominalCodes, NominalWords, TwelveBitWords}
+use Rattle.matrix.specs.Inner.{NominalCodes, NominalWords, TwelveBitWords}
 
 in-range : (n : Range) (d : ℕ) → within n d ≡ true → (n .low ≤ d) × (d ≤ n .high)
 in-range n d e =

@@ -1,2 +1,2 @@
 pub mod Triples
-pub mod Rows
+pub mod Inner

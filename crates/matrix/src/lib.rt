@@ -13,7 +13,7 @@ ghost use Rattle.exact.specs.Signed.{rounded};
 ghost use Rattle.systems.specs.declared.Matrix.the-variants.{Bt709, Bt2020};
 ghost use Rattle.systems.specs.Systems.{matrix, scale};
 ghost use Rattle.matrix.specs.Triples.{wordsAt, codesAt, wordsOfCodes, codesOfWords, toldWords, toldCodes, wordsWithin, clipped, beyond};
-ghost use Rattle.matrix.specs.Rows.{triple, NominalCodes, TwelveBitWords, Small, dotted, encodingRows, colourDifference, decodingRows, unclippedAt, fixed, fromFixed, InOrder};
+ghost use Rattle.matrix.specs.Inner.{triple, NominalCodes, TwelveBitWords, Small, dotted, encodingRows, colourDifference, decodingRows, unclippedAt, fixed, fromFixed, InOrder};
 
 // Y', Cb and Cr words of a sample.
 #[repr(C)]

@@ -14,18 +14,19 @@ use Rattle.exact.specs.Outcome.{Outcome}
 use Rattle.systems.specs.Systems.{number}
 use Rattle.block.specs.Read.{headerOf, sliceAfter}
 use Rattle.row.specs.Row.{rowBlock}
+use Rattle.block.specs.Block.{size}
 use Rattle.picture.specs.declared.Opened.{Opened}
 use Rattle.picture.specs.declared.Phase.{Phase}
 use Rattle.picture.specs.declared.Phase.the-variants.{Fresh, Open, Closed}
 use Rattle.picture.specs.declared.Picture.{Picture}
-use Rattle.picture.specs.Picture.{at, opening, blockLength, rowOpen, rowFrom, rowing, bufferBy, bufferFrom, bufferAfter, closing}
+use Rattle.picture.specs.Picture.{at, opening, rowOpen, rowFrom, rowing, bufferBy, bufferFrom, bufferAfter, closing}
 use Rattle.picture.specs.Book.{Call, opens, rows, closes, State, fresh, Heard, accepted, refused, Entry, accepts, enters, choose, heardFrom, entriesFrom}
 use Rattle.picture.proofs.Agreement.{split}
 use Rattle.picture.proofs.Calls.{Label, Card, Lent, Lights, Ran, ends, after-open, after-row, after-close, History}
 use Rattle.picture.proofs.Card.{heardOf, labelOf, Opens, by-open, Rows, by-row, Closes, by-close, Reads, by-read-block, card}
 use Rattle.picture.proofs.Claims.{ReadsBack, Blocks, none, one, keptBy, kept, Unchanged, stateOf, stateFrom, Demanded, Proper}
 use Rattle.picture.proofs.Faithful.{Follows, Faithful}
-use Rattle.picture.proofs.Rows.{size, reads-back}
+use Rattle.picture.proofs.Rows.{block-size, reads-back}
 use Rattle.picture.proofs.Steps.{InStep, open-step, row-step, close-step}
 
 -- ---- what a row leaves in its buffer
@@ -53,11 +54,11 @@ row-keeps does Fresh lights out g l = none
 row-keeps {card} does (Open o) lights out g l =
     split (ltb (o .rows) (o .height))
     (λ a. split (eqb (length lights) (3 * o .width))
-    (λ b. split (leb (blockLength (o .width)) (length out))
+    (λ b. split (leb (size (o .width)) (length out))
     (λ c.
     let lt = ltb-true (o .rows) (o .height) a in
     let numbered : o .rows ≤ 4319 = omega (arith, g .height-to) in
-    let long = size (o .system) (o .rows) (o .width) lights (g .width-from) (g .width-to) numbered in
+    let long = block-size (o .system) (o .rows) (o .width) lights (g .width-from) (g .width-to) numbered in
     let back = reads-back (o .system) (o .rows) (o .width) lights (g .width-from) (g .width-to) numbered does l in
     let entry : Entry = record { system = number (o .system); width = o .width; row = o .rows; lights = lights } in
     let made : List ℕ = rowBlock (o .system) (o .rows) (o .width) lights in

@@ -20,7 +20,7 @@ use Rattle.curve.specs.Curve.{code}
 use Rattle.curve.proofs.Lights.{code-low, code-high}
 use Rattle.matrix.specs.declared.Clipped.{Clipped}
 use Rattle.matrix.specs.declared.Words.{Words}
-use Rattle.matrix.specs.Rows.{NominalCodes, NominalWords}
+use Rattle.matrix.specs.Inner.{NominalCodes, NominalWords}
 use Rattle.matrix.specs.Triples.{wordsAt, codesAt, wordsWithin}
 use Rattle.matrix.proofs.Clipping.{codes-nominal}
 use Rattle.matrix.proofs.Nominal.{words-nominal, word-near, no-timing-code}
@@ -161,9 +161,9 @@ module _ (y : System) (r w : ℕ) (lights : List ℕ) (some : 1 ≤ w) (most : w
     nominal = λ i h. ap (wordsWithin y) (samples i h) ∙ sample-passes y lights i;
   }
 
-  pub size : length (rowBlock y r w lights) ≡ 9 + 6 * w
+  pub block-size : length (rowBlock y r w lights) ≡ 9 + 6 * w
   unfolding rowBlock
-  size = block-length (number y) r w y ys cbs crs nominal-row
+  block-size = block-length (number y) r w y ys cbs crs nominal-row
 
   words : (i : ℕ) → i < w → StoredSample y (codesOf y lights i) (sampleAt (rowBlock y r w lights) w i)
   unfolding rowBlock
@@ -199,7 +199,7 @@ module _ (y : System) (r w : ℕ) (lights : List ℕ) (some : 1 ≤ w) (most : w
   reads-back does lit = record {
     system = y;
     numbered = refl;
-    size = size;
+    size = block-size;
     words = words;
     reads = λ {slice} room given. record {
       told = does .reads given .0 ∙ ap labelOf (heard (length slice) room);

@@ -14,10 +14,11 @@ use Rattle.systems.specs.declared.System.{System}
 use Rattle.systems.specs.declared.System.the-variants.{Bt709Bits8, Bt709Bits10, Bt2020Bits10, Bt2020Bits12}
 use Rattle.systems.specs.Systems.{number, named}
 use Rattle.systems.proofs.Scales.{unnamed}
+use Rattle.block.specs.Block.{size}
 use Rattle.picture.specs.declared.Phase.{Phase}
 use Rattle.picture.specs.declared.Phase.the-variants.{Fresh, Open, Closed}
 use Rattle.picture.specs.declared.Picture.{Picture}
-use Rattle.picture.specs.Picture.{at, beginIn, begin, openFrom, blockLength, rowOpen, rowFrom, closeFrom}
+use Rattle.picture.specs.Picture.{at, beginIn, begin, openFrom, rowOpen, rowFrom, closeFrom}
 use Rattle.picture.specs.Book.{Call, opens, rows, closes, opened, Heard, accepted, refused, among, choose, hears, next}
 use Rattle.picture.proofs.Agreement.{split, at-least-is-not-below, below-is-not-at-least}
 use Rattle.picture.proofs.Card.{heardOf, leads}
@@ -96,10 +97,10 @@ unfolding rowOpen
 row-step Fresh lights room = record { same = refl; leads-on = refl; stays = λ g. g }
 row-step (Open o) lights room =
     let full = at-least-is-not-below (o .rows) (o .height) in
-    let short = below-is-not-at-least room (blockLength (o .width)) in
+    let short = below-is-not-at-least room (size (o .width)) in
     split (ltb (o .rows) (o .height))
     (λ a. split (eqb (length lights) (3 * o .width))
-    (λ b. split (leb (blockLength (o .width)) room)
+    (λ b. split (leb (size (o .width)) room)
     (λ c. record {
       same = simp (full, short, a, b, c);
       leads-on = simp (a, b, c);

@@ -12,12 +12,13 @@ use Rattle.block.specs.declared.Header.{Header}
 use Rattle.block.specs.declared.BlockRead.{BlockRead}
 use Rattle.block.specs.declared.BlockRead.the-variants as read
 use Rattle.block.specs.Read.{widthOk, toldHeader}
+use Rattle.block.specs.Block.{size}
 use Rattle.picture.specs.declared.Phase.{Phase}
 use Rattle.picture.specs.declared.Phase.the-variants.{Fresh, Open, Closed}
 use Rattle.picture.specs.declared.Picture.{Picture}
 use Rattle.picture.specs.declared.Change.{Change}
 use Rattle.picture.specs.declared.Change.the-variants as change
-use Rattle.picture.specs.Picture.{toldPicture, heightOk, begin, openFrom, blockLength, rowOpen, rowFrom, closeFrom}
+use Rattle.picture.specs.Picture.{toldPicture, heightOk, begin, openFrom, rowOpen, rowFrom, closeFrom}
 
 -- an answer that says o
 pub record Answer (o : Outcome Picture) : Type 0 where
@@ -51,7 +52,7 @@ row-tellable Fresh lights room = refusing refusal.NotOpen
 row-tellable (Open o) lights room =
     tested (ltb (o .rows) (o .height)) refusal.AllRows
     (tested (eqb (length lights) (3 * o .width)) refusal.Lights
-    (tested (leb (blockLength (o .width)) room) refusal.Output (values _)))
+    (tested (leb (size (o .width)) room) refusal.Output (values _)))
 row-tellable Closed lights room = refusing refusal.NotOpen
 
 pub close-tellable : (f : Phase) → Tellable (closeFrom f)

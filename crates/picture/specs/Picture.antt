@@ -9,6 +9,7 @@ use Rattle.exact.specs.Outcome.{Outcome, accepted, refused, _and-then_, require
 use Rattle.systems.specs.declared.System.{System}
 use Rattle.systems.specs.Systems.{named}
 use Rattle.systems.specs.Refusals.{refusal}
+use Rattle.block.specs.Block.{size}
 use Rattle.block.specs.Read.{widthOk}
 use Rattle.row.specs.Row.{rowBlock}
 use Rattle.picture.specs.declared.Opened.{Opened}
@@ -63,10 +64,6 @@ openFrom Closed n w h = begin n w h
 abbrev pub opening : Picture → ℕ → ℕ → ℕ → Outcome Picture
 opening p n w h = openFrom (p .phase) n w h
 
--- the bytes of a row's block
-abbrev pub blockLength : ℕ → ℕ
-blockLength w = 9 + 6 * w
-
 -- one row more
 abbrev pub more : Opened → Picture
 more o = at (Open (record { system = o .system; width = o .width; height = o .height; rows = o .rows + 1 }))
@@ -76,7 +73,7 @@ unfoldable pub rowOpen : Opened → List ℕ → ℕ → Outcome Picture
 rowOpen o lights room =
     require (ltb (o .rows) (o .height)) 23
     (require (eqb (length lights) (3 * o .width)) 4
-    (require (leb (blockLength (o .width)) room) 5
+    (require (leb (size (o .width)) room) 5
     (accepted (more o))))
 
 abbrev pub rowFrom : Phase → List ℕ → ℕ → Outcome Picture
@@ -89,7 +86,7 @@ rowing p lights room = rowFrom (p .phase) lights room
 
 -- the buffer as a row leaves it: the block at the front where it is accepted, and later bytes as they were
 abbrev pub bufferBy : Outcome Picture → Opened → List ℕ → List ℕ → List ℕ
-bufferBy (accepted p) o lights out = rowBlock (o .system) (o .rows) (o .width) lights ++ drop (blockLength (o .width)) out
+bufferBy (accepted p) o lights out = rowBlock (o .system) (o .rows) (o .width) lights ++ drop (size (o .width)) out
 bufferBy (refused n) o lights out = out
 
 abbrev pub bufferFrom : Phase → List ℕ → List ℕ → List ℕ

@@ -1,5 +1,6 @@
 // A picture taken row by row (document 01, 'Picture'). proofs/Demand.antt has the theorem over every list of these calls
 // (demand 3), and docs/THEOREM.md explains it.
+use block::size;
 use row::write_row;
 use systems::MOST_ROWS;
 use systems::MOST_SAMPLES;
@@ -167,14 +168,14 @@ fn next_row(o: Opened, lights: &[u16], out: &mut [u8]) -> Change
     let rows = o.rows;
     let height = o.height;
     let needed = 3 * o.width as usize;
-    let size = 9 + 6 * o.width as usize;
+    let room = size(o.width as usize);
     if height <= rows {
         return Change::Refused(Refusal::AllRows);
     }
     if lights.len() != needed {
         return Change::Refused(Refusal::Lights);
     }
-    if out.len() < size {
+    if out.len() < room {
         return Change::Refused(Refusal::Output);
     }
     let system = o.system;

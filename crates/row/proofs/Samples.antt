@@ -12,9 +12,9 @@ use Rattle.systems.specs.Systems.{matrix, scale}
 use Rattle.curve.proofs.Lights.{code-low, code-high}
 use Rattle.matrix.specs.declared.Words.{Words}
 use Rattle.matrix.specs.Triples.{wordsAt}
-use Rattle.matrix.specs.Rows.{NominalCodes}
+use Rattle.matrix.specs.Inner.{NominalCodes}
 use Rattle.row.specs.Row.{sampleCodes, sampleWords}
-use Rattle.row.specs.Stores.{put, headed, worded, stored}
+use Rattle.row.specs.Inner.{put, headed, worded, stored}
 
 -- the codes of a sample's lights are nominal
 pub sample-nominal : (y : System) (lights : List ℕ) (i : ℕ) {c : Codes} → c ≡ sampleCodes y lights i → NominalCodes (scale y) c

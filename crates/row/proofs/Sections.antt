@@ -8,7 +8,7 @@ use lib.ListN.{length, set, getD, take, drop, length-append, length-drop, take-a
 use lib.Seq.{set-at, drop-drop, drop-cons}
 use Rattle.block.specs.Block.{field, fields, section, block}
 use Rattle.row.specs.Row.{listed}
-use Rattle.row.specs.Stores.{put}
+use Rattle.row.specs.Inner.{put}
 
 -- ---- the words
 

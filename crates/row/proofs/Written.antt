@@ -12,7 +12,7 @@ use Rattle.systems.specs.Systems.{number}
 use Rattle.matrix.specs.declared.Words.{Words}
 use Rattle.block.specs.Block.{field, fields, section, block}
 use Rattle.row.specs.Row.{listed, sampleWords, rowBlock}
-use Rattle.row.specs.Stores.{put, headed, worded, stored}
+use Rattle.row.specs.Inner.{put, headed, worded, stored}
 use Rattle.row.proofs.Sections.{length-listed, length-block, part, part-all, part-more, length-part, gap-at, pair-at, put-at}
 
 -- what stands behind three lists, and behind five

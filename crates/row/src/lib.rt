@@ -22,10 +22,10 @@ ghost use lib.ListN.{length, drop, set};
 ghost use Rattle.systems.specs.declared.Matrix.the-variants.{Bt709, Bt2020};
 ghost use Rattle.systems.specs.Systems.{number, matrix};
 ghost use Rattle.curve.specs.Inner.{Ready};
-ghost use Rattle.matrix.specs.Rows.{triple};
+ghost use Rattle.matrix.specs.Inner.{triple};
 ghost use Rattle.block.specs.Block.{size};
 ghost use Rattle.row.specs.Row.{sampleCodes, sampleWords, rowBlock};
-ghost use Rattle.row.specs.Stores.{RowFits, put, headed, worded, stored};
+ghost use Rattle.row.specs.Inner.{RowFits, put, headed, worded, stored};
 
 // One row block to the front of `out`; later bytes stay. The system's table is made once for the row.
 pub fn write_row(y: System, row: u16, width: u16, lights: &[u16], out: &mut [u8])

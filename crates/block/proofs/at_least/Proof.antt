@@ -1,7 +1,7 @@
 use mathlib.Core.Path.{sym, ap}
 use mathlib.Core.Bool.{Bool}
 use borrow.Author.Tests.{lt-ltb, le-ltb}
-use Rattle.block.specs.Steps.{oneOf}
+use Rattle.block.specs.Inner.{oneOf}
 use Rattle.block.proofs.at_least.Statement.{statement}
 use Rattle.block.proofs.at_least.Tie as tie
 

@@ -6,7 +6,7 @@ use mir.Syntax.{w64}
 use mir.ValLaws.{toZ-ofZ, toZ-pos}
 use borrow.Author.Needs.{needs}
 use Rattle.exact.proofs.Machine.{fits-i64}
-use Rattle.block.specs.Steps.{biased}
+use Rattle.block.specs.Inner.{biased}
 use Rattle.block.proofs.Bias.{biased-is}
 use Rattle.block.proofs.biased.Statement.{statement}
 use Rattle.block.proofs.biased.Tie as tie

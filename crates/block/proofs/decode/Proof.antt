@@ -9,7 +9,7 @@ use Rattle.systems.specs.declared.Range.{Range}
 use Rattle.systems.specs.Systems.{matrix, scale}
 use Rattle.systems.proofs.Scales.{scale-range}
 use Rattle.block.specs.Read.{sampleAt}
-use Rattle.block.specs.Steps.{biasedRow, listedTo, clippedAll, beyondAll}
+use Rattle.block.specs.Inner.{biasedRow, listedTo, clippedAll, beyondAll}
 use Rattle.block.proofs.Decoding.{listed-kept}
 use Rattle.block.proofs.Clipping.{clipped-row}
 use borrow.Author.Needs.{needs}

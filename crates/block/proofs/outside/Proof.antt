@@ -3,7 +3,7 @@ use Prim.Native.Nat.{_*_, _-_, _≤_}
 use native.Mathlib.Omega.{arith}
 use lib.Dec.{eqb}
 use denote.Ref.{now}
-use Rattle.block.specs.Steps.{inRange}
+use Rattle.block.specs.Inner.{inRange}
 use Rattle.block.proofs.Nominal.{misses-small, range-more}
 use Rattle.block.proofs.outside.Statement.{statement}
 use Rattle.block.proofs.outside.Tie as tie

@@ -7,11 +7,11 @@ use Rattle.systems.specs.declared.Codes.{Codes}
 use Rattle.systems.specs.declared.Matrix.{Matrix}
 use Rattle.systems.specs.Systems.{scale}
 use Rattle.systems.proofs.Scales.{scale-range}
-use Rattle.matrix.specs.Rows.{unclippedAt}
+use Rattle.matrix.specs.Inner.{unclippedAt}
 use Rattle.matrix.proofs.Tested.{twelve-bits}
 use Rattle.matrix.proofs.DecodingRows.{unclipped-small}
 use Rattle.block.specs.Read.{sampleAt}
-use Rattle.block.specs.Steps.{biasedTriple, biasedRow}
+use Rattle.block.specs.Inner.{biasedTriple, biasedRow}
 use Rattle.block.proofs.Decoding.{SoFar, none-yet, one-more, all-done, so-far-long}
 use Rattle.block.proofs.put_unclipped.Statement.{statement}
 use Rattle.block.proofs.put_unclipped.Tie as tie

@@ -4,7 +4,7 @@ use denote.Ref.{now}
 use borrow.Author.Tests.{leb-true, leb-false, not-true, not-false}
 use Rattle.exact.specs.Outcome.{accepted}
 use Rattle.block.specs.Read.{walk}
-use Rattle.block.specs.Steps.{toldWalk}
+use Rattle.block.specs.Inner.{toldWalk}
 use Rattle.block.proofs.Walking.{walk-accepted}
 use Rattle.block.proofs.Reading.{walk-refused, word-refused, room-refused, row-accepted, decodable, slice-stays, codes-in-front}
 use borrow.Author.Needs.{needs}

@@ -6,7 +6,7 @@ use lib.Dec.{eqb}
 use borrow.Author.Tests.{eq-eqb, ne-eqb}
 use Rattle.exact.specs.Outcome.{accepted}
 use Rattle.block.specs.Read.{widthOk, sectionAt, sections}
-use Rattle.block.specs.Steps.{toldCount}
+use Rattle.block.specs.Inner.{toldCount}
 use Rattle.block.proofs.Walking.{section-said}
 use borrow.Author.Needs.{needs}
 use Rattle.block.proofs.sections.Statement.{statement}

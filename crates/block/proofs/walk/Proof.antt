@@ -3,7 +3,7 @@ use native.Mathlib.Omega.{arith}
 use borrow.Author.Tests.{le-leb, lt-leb}
 use Rattle.systems.specs.Systems.{found}
 use Rattle.block.specs.Read.{walk}
-use Rattle.block.specs.Steps.{toldCount}
+use Rattle.block.specs.Inner.{toldCount}
 use borrow.Author.Needs.{needs}
 use Rattle.block.proofs.walk.Statement.{statement}
 use Rattle.block.proofs.walk.Tie as tie

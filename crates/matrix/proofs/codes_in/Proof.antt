@@ -7,7 +7,7 @@ use Rattle.exact.proofs.Machine.{reads-back}
 use Rattle.systems.specs.Systems.{matrix, scale}
 use Rattle.systems.proofs.Scales.{scale-range}
 use Rattle.matrix.specs.Triples.{codesAt}
-use Rattle.matrix.specs.Rows.{unclippedAt}
+use Rattle.matrix.specs.Inner.{unclippedAt}
 use Rattle.matrix.proofs.DecodingRows.{unclipped-small}
 use Rattle.matrix.proofs.codes_in.Statement.{statement}
 use Rattle.matrix.proofs.codes_in.Tie as tie

@@ -8,7 +8,7 @@ use mir.ValLaws.{toZ-ofZ, toZ-pos}
 use borrow.Author.Needs.{needs, sfits-of}
 use Rattle.exact.proofs.Difference.{pos-less, sub-pos}
 use Rattle.exact.proofs.Machine.{fits-i64, reads-back, shifted-reads-back, positive, is-positive}
-use Rattle.matrix.specs.Rows.{unit, fixed}
+use Rattle.matrix.specs.Inner.{unit, fixed}
 use Rattle.matrix.proofs.ColourDifference.{start, total, difference-rounds, taken-small, total-small}
 use Rattle.matrix.proofs.colour_difference.Statement.{statement}
 use Rattle.matrix.proofs.colour_difference.Tie as tie

@@ -3,7 +3,7 @@ use mathlib.Core.Logic.{_⊎_, inl, inr}
 use lib.Dec.{lit<, lit≤}
 use borrow.Author.Needs.{needs}
 use Rattle.systems.specs.declared.Matrix.the-variants.{Bt709, Bt2020}
-use Rattle.matrix.specs.Rows.{decodingRows}
+use Rattle.matrix.specs.Inner.{decodingRows}
 use Rattle.matrix.proofs.Weights.{Row, row-of}
 use Rattle.matrix.proofs.decoding.Statement.{statement}
 use Rattle.matrix.proofs.decoding.Tie as tie

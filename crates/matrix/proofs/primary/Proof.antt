@@ -8,7 +8,7 @@ use mir.Val.{toZ, ofZ}
 use mir.ValLaws.{toZ-ofZ}
 use borrow.Author.Needs.{needs, sfits-of}
 use Rattle.exact.proofs.Machine.{natAbs-add, fits-i64, reads-back, shifted-reads-back}
-use Rattle.matrix.specs.Rows.{dotted, unit, reach}
+use Rattle.matrix.specs.Inner.{dotted, unit, reach}
 use Rattle.matrix.proofs.Products.{dotted-small}
 use Rattle.matrix.proofs.primary.Statement.{statement}
 use Rattle.matrix.proofs.primary.Tie as tie

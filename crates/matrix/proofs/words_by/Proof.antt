@@ -17,7 +17,7 @@ use Rattle.exact.proofs.Rounding.{rounded-whole}
 use Rattle.systems.specs.declared.Codes.{Codes}
 use Rattle.systems.specs.Systems.{scale, kr, kb}
 use Rattle.systems.proofs.Scales.{scale-range}
-use Rattle.matrix.specs.Rows.{Small, triple, dotted, colourDifference}
+use Rattle.matrix.specs.Inner.{Small, triple, dotted, colourDifference}
 use Rattle.matrix.specs.Triples.{weighted, whole}
 use Rattle.matrix.proofs.EncodingRows.{column, above, rows-give, rows-small, luma-small, above-small, difference-is}
 use Rattle.matrix.proofs.Weights.{row-of, weights-between}

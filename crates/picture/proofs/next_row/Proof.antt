@@ -13,11 +13,8 @@ mul-needed c = search needs
 cast-size : tie.Need-cast-size
 cast-size c = search needs
 
-mul-size : tie.Need-mul-size
-mul-size c = search needs
-
-add-size : tie.Need-add-size
-add-size c = search needs
+size-requires : tie.Need-size-requires
+size-requires c κs = search needs
 
 returns : tie.Need-returns
 unfolding rowOpen
@@ -35,7 +32,7 @@ unfolding rowOpen
 returns-3 c =
     let first = c .before .before .if1 .left in
     let second = c .before .if2 .left in
-    let third = c .if3 .taken in
+    let third = rw (c .before .before .before .size .ensures) at (c .if3 .taken) in
     (simp tests, simp tests)
 
 write-row-requires : tie.Need-write-row-requires
@@ -54,7 +51,7 @@ returns-4 c =
     let roomy = written .before .before in
     let first = roomy .before .before .if1 .left in
     let second = roomy .before .if2 .left in
-    let third = roomy .if3 .left in
+    let third = rw (roomy .before .before .before .size .ensures) at (roomy .if3 .left) in
     (simp tests, simp tests (written .write-row .ensures))
 
 pub next-row-spec : {M : Type 1} → statement M
@@ -64,8 +61,7 @@ next-row-spec =
     cast-needed
     mul-needed
     cast-size
-    mul-size
-    add-size
+    size-requires
     returns
     returns-2
     returns-3

@@ -1,6 +1,6 @@
 use mathlib.Core.Path.{ap, _∙_}
 use Rattle.matrix.specs.declared.Words.{Words}
-use Rattle.row.specs.Stores.{worded}
+use Rattle.row.specs.Inner.{worded}
 use Rattle.row.proofs.Samples.{sample-nominal, sample-words}
 use borrow.Author.Needs.{needs}
 use Rattle.row.proofs.put_sample_2020.Statement.{statement}

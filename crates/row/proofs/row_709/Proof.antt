@@ -6,7 +6,7 @@ use native.Mathlib.Omega.{arith}
 use mathlib.Core.Path.{_≡_, ap, _∙_}
 use lib.ListN.{length}
 use Rattle.row.specs.Row.{sampleWords}
-use Rattle.row.specs.Stores.{stored}
+use Rattle.row.specs.Inner.{stored}
 use Rattle.row.proofs.Samples.{stored-more}
 use Rattle.row.proofs.row_709.Statement.{statement}
 use Rattle.row.proofs.row_709.Tie as tie

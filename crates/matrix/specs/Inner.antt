@@ -1,5 +1,4 @@
--- Inner definitions, which the contracts of the crate's own functions cite: each matrix as three rows of three whole numbers, and
--- fixed point. Nothing here has to be believed.
+-- Inner definitions: each matrix as three rows of three whole numbers, and fixed point. Nothing here has to be believed.
 -- Definitions only.
 use Prim.Native.Nat.{ℕ, _+_, _*_, _-_, _/_, _^_, _≤_, _<_}
 use mathlib.Core.List.{List, [], _∷_}

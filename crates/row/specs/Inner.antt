@@ -1,5 +1,5 @@
--- Inner definitions, which the contracts of the crate's own functions cite: the stores that make a row block in a buffer, the
--- head, then the words of each sample into the three sections. Nothing here has to be believed.
+-- Inner definitions: the stores that make a row block in a buffer, the head, then the words of each sample into the three
+-- sections. Nothing here has to be believed.
 -- Definitions only.
 use mathlib.Core.Path.{_≡_}
 use mathlib.Core.List.{List}

@@ -1,5 +1,4 @@
--- Inner definitions, which the contracts of the crate's own functions cite: the steps of reading a block. Nothing here has to be
--- believed.
+-- Inner definitions: the steps of reading a block. Nothing here has to be believed.
 -- Definitions only.
 use Prim.Native.Nat.{ℕ, zero, suc, _+_, _*_, _^_, _≤_, _<_}
 use mathlib.Core.Bool.{Bool, true, false, _&&_}
@@ -16,7 +15,7 @@ use Rattle.systems.specs.Refusals.{refusal}
 use Rattle.matrix.specs.declared.Words.{Words}
 use Rattle.matrix.specs.declared.Unclipped.{Unclipped}
 use Rattle.matrix.specs.Triples.{whole, clipped, beyond}
-use Rattle.matrix.specs.Rows.{NominalWords, unclippedAt}
+use Rattle.matrix.specs.Inner.{NominalWords, unclippedAt}
 use Rattle.block.specs.declared.Walked.{Walked}
 use Rattle.block.specs.declared.Counted.{Counted}
 use Rattle.block.specs.declared.Counted.the-variants as counted

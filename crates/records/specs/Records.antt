@@ -33,7 +33,7 @@ tallyTo same zero = none
 tallyTo same (suc n) = tallied (tallyTo same n) (same n)
 
 -- a tally at the end of its data, of which so many bytes are left: they are a case that is cut off, and it differs
-abbrev pub ended : Tally → ℕ → Tally
+unfoldable pub ended : Tally → ℕ → Tally
 ended t left = cond (eqb left 0) t (tallied t false)
 
 -- the tally of data in records of a size

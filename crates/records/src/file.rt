@@ -1,6 +1,6 @@
 // The files of data/, which the scripts of reference/ make, and the numbers in them.
 ghost use mathlib.Core.Path.{_≡_};
-ghost use Prim.Native.Nat.{_+_, _*_, _-_, _≤_};
+ghost use Prim.Native.Nat.{_+_, _*_, _≤_};
 ghost use lib.ListN.{length};
 ghost use Rattle.io.specs.Counts.{Counts};
 ghost use Rattle.records.specs.Records.{u16At, u32At};
@@ -8,7 +8,6 @@ ghost use Rattle.records.specs.Records.{u16At, u32At};
 // Reads a file to the front of buf and answers its length: 0 where it does not open, or where buf is too short to show its end.
 pub fn read(path: &[u8], buf: &mut [u8]) -> usize
     ensures { λ r. ⌜ Counts r (now (buf .exit)) ⌝ }
-    ensures { λ r. ⌜ r ≤ length (now (buf .entry)) - 1 ⌝ }
 {
     let fd = os::open_read(path);
     if fd < 0 {

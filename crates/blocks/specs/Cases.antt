@@ -1,9 +1,9 @@
 -- The cases of the file that reference/make_blocks.py makes, and whether reading agrees with them. Definitions only.
-use Prim.Native.Nat.{ℕ, zero, suc, _+_, _*_, _-_, _/_, _%_, _≤_, _<_}
+use Prim.Native.Nat.{ℕ, zero, suc, _+_, _*_, _-_, _/_, _%_, _<_}
 use mathlib.Core.Path.{_≡_}
-use mathlib.Core.Bool.{Bool, true, _&&_, cond}
+use mathlib.Core.Bool.{Bool, true, false, _&&_, cond}
 use mathlib.Core.List.{List, [], _∷_, _++_}
-use lib.Dec.{eqb, ltb}
+use lib.Dec.{eqb, ltb, leb}
 use lib.ListN.{length, getD, take, drop}
 use Rattle.exact.specs.Outcome.{Outcome, accepted, refused}
 use Rattle.systems.specs.Systems.{number}
@@ -62,27 +62,30 @@ answered c block codes places = agrees (headerOf block places) c && dueTo (slice
 abbrev pub met : Case → List ℕ → Bool
 met c bs = answered c (take (c .length) bs) (drop (c .length) bs) (c .places)
 
--- the place of case n, and whether the case is there whole
+-- the place of case n
 unfoldable pub place : List ℕ → ℕ → ℕ
 place bs zero = 0
 place bs (suc n) = place bs n + sizeOf (caseAt bs (place bs n))
 
-abbrev pub Whole : List ℕ → ℕ → Type 0
-Whole bs at = (at + 16 ≤ length bs) × (at + sizeOf (caseAt bs at) ≤ length bs)
+-- a whole case stands at a place
+abbrev pub wholeAt : List ℕ → ℕ → Bool
+wholeAt bs at = leb (at + 16) (length bs) && leb (at + sizeOf (caseAt bs at)) (length bs)
 
--- the tally after the case at a place: it counts where its refusal is the one in question
-abbrev pub caseTallied : List ℕ → ℕ → ℕ → Tally → Tally
-caseTallied bs refusal at t =
-    let c = caseAt bs at in
-    cond (eqb (c .refusal) refusal) (tallied t (met c (take (c .length + 6 * c .samples) (drop (at + 16) bs)))) t
+-- the tally after a case and the bytes behind its numbers: it counts where its refusal is the one in question
+abbrev pub caseTallied : Case → List ℕ → ℕ → Tally → Tally
+caseTallied c bs refusal t = cond (eqb (c .refusal) refusal) (tallied t (met c bs)) t
+
+-- the tally after the case at a place
+abbrev pub talliedAt : List ℕ → ℕ → ℕ → Tally → Tally
+talliedAt bs refusal at t = caseTallied (caseAt bs at) (take (sizeOf (caseAt bs at) - 16) (drop (at + 16) bs)) refusal t
 
 unfoldable pub tallyTo : List ℕ → ℕ → ℕ → Tally
 tallyTo bs refusal zero = none
-tallyTo bs refusal (suc n) = caseTallied bs refusal (place bs n) (tallyTo bs refusal n)
+tallyTo bs refusal (suc n) = talliedAt bs refusal (place bs n) (tallyTo bs refusal n)
 
 -- the tally of all cases: of those that are there whole, up to the first that is not; bytes that are left are a case that is cut off
 pub record Compared (bs : List ℕ) (refusal : ℕ) (t : Tally) : Type 0 where
   pub count : ℕ
-  pub whole : (i : ℕ) → i < count → Whole bs (place bs i)
-  pub no-more : Whole bs (place bs count) → ⊥
+  pub whole : (i : ℕ) → i < count → wholeAt bs (place bs i) ≡ true
+  pub no-more : wholeAt bs (place bs count) ≡ false
   pub tally : t ≡ ended (tallyTo bs refusal count) (length bs - place bs count)

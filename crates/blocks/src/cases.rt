@@ -3,7 +3,7 @@ ghost use mathlib.Core.Path.{_≡_};
 ghost use Prim.Native.Nat.{_+_, _*_, _≤_};
 ghost use lib.ListN.{length};
 ghost use Rattle.block.specs.Read.{toldHeader};
-ghost use Rattle.blocks.specs.Cases.{caseAt, sizeOf, sameHeader, agrees, answered, met, Compared};
+ghost use Rattle.blocks.specs.Cases.{caseAt, sizeOf, sameHeader, agrees, answered, met, wholeAt, caseTallied, Compared};
 use crate::slice;
 use block::BlockRead;
 use block::Header;
@@ -28,18 +28,36 @@ pub fn compare(cases: &[u8], refusal: u32) -> Tally
 {
     let mut tally = Tally::NONE;
     let mut at = 0;
-    while cases.len() - at >= 16 {
+    while holds_case(cases, at) {
         let case = case_at(cases, at);
         let size = case.size();
-        if size > cases.len() - at {
-            return tally.ended(cases.len() - at);
-        }
-        if case.refusal == refusal {
-            tally = tally.with(is_met(case, &cases[at + 16..at + size]));
-        }
+        tally = with_case(tally, case, &cases[at + 16..at + size], refusal);
         at += size;
     }
     tally.ended(cases.len() - at)
+}
+
+// Whether a whole case stands at a place.
+fn holds_case(cases: &[u8], at: usize) -> bool
+    requires { ⌜ at ≤ length (now cases) ⌝ }
+    ensures { λ r. ⌜ r ≡ wholeAt (now (cases .entry)) at ⌝ }
+{
+    if cases.len() - at < 16 {
+        return false;
+    }
+    at + case_at(cases, at).size() <= cases.len()
+}
+
+// A case counts where its refusal is the one in question.
+fn with_case(tally: Tally, case: Case, bytes: &[u8], refusal: u32) -> Tally
+    requires { ⌜ case .length ≤ length (now bytes) ⌝ }
+    ensures { λ r. ⌜ r ≡ caseTallied case (now (bytes .entry)) refusal tally ⌝ }
+{
+    if case.refusal == refusal {
+        tally.with(is_met(case, bytes))
+    } else {
+        tally
+    }
 }
 
 fn case_at(cases: &[u8], at: usize) -> Case
@@ -69,7 +87,7 @@ fn is_met(case: Case, bytes: &[u8]) -> bool
     requires { ⌜ case .length ≤ length (now bytes) ⌝ }
     ensures { λ r. ⌜ r ≡ met case (now (bytes .entry)) ⌝ }
 {
-    let mut lent = [0u16; 65536];
+    let mut lent = slice::longest();
     let length = case.length as usize;
     let places = case.places as usize;
     is_answered(
@@ -92,7 +110,7 @@ fn is_answered(case: Case, bytes: &[u8], codes: &[u8], lent: &mut [u16]) -> bool
 impl Case {
     // The bytes of the case: the numbers, the block and the codes.
     fn size(self) -> usize
-        ensures { λ r. ⌜ (r ≡ sizeOf self) × (16 ≤ r) ⌝ }
+        ensures { λ r. ⌜ (r ≡ sizeOf self) × (r ≤ 524288) ⌝ }
     {
         16 + self.length as usize + 6 * (self.samples as usize)
     }

@@ -4,6 +4,13 @@ ghost use mathlib.Core.Path.{_≡_};
 ghost use Rattle.blocks.specs.Cases.{before, filled, due, dueTo};
 use records::u16_at;
 
+// Room for any number of places that 16 bits hold.
+pub fn longest() -> [u16; 65536]
+    ensures { λ r. ⌜ 65536 ≡ length r ⌝ }
+{
+    [0; 65536]
+}
+
 // What stands at a place before the call. No system has such a code up to place 25535.
 fn before(place: usize) -> u16
     ensures { λ r. ⌜ r ≡ before place ⌝ }

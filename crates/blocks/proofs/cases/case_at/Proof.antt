@@ -1,11 +1,6 @@
 use borrow.Author.Needs.{needs}
 use Rattle.blocks.proofs.cases.case_at.Statement.{statement}
 use Rattle.blocks.proofs.cases.case_at.Tie as tie
-use Rattle.blocks.proofs.cases.case_at.Reads as reads
-use Rattle.blocks.proofs.cases.case_at.Lts as lts
-use Rattle.blocks.proofs.cases.wide.Reads as wide-reads
-use Rattle.records.proofs.u16_at.Reads as u16-at-reads
-use Rattle.records.proofs.u32_at.Reads as u32-at-reads
 
 u16-at-requires : tie.Need-u16-at-requires
 u16-at-requires c κs = search needs
@@ -53,7 +48,7 @@ u32-at-requires : tie.Need-u32-at-requires
 u32-at-requires c κs = search needs
 
 returns : tie.Need-returns
-returns c = ?
+returns c = rw (c .before .before .before .before .before .before .before .before .u16-at .ensures, c .before .before .before .before .before .before .wide .ensures, c .before .before .before .before .before .before .before .u16-at2 .ensures, c .before .before .before .before .before .u16-at3 .ensures, c .before .before .before .wide2 .ensures, c .before .before .before .before .u16-at4 .ensures, c .before .before .u16-at5 .ensures, c .before .u16-at6 .ensures, c .u32-at .ensures)
 
 pub case-at-spec : {M : Type 1} → statement M
 case-at-spec =

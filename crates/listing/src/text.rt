@@ -1,75 +1,69 @@
-// Text that is collected in a buffer before it is written.
+// Text that is put into a lent buffer, piece after piece. Each function is given the place to begin at, and answers with the place
+// after its piece.
 ghost use Prim.Native.Nat.{_+_, _≤_, _<_};
+ghost use mathlib.Core.List.{[], _∷_, _++_};
 ghost use lib.ListN.{length};
+ghost use Rattle.listing.specs.Listing.{glyph, decimal, line};
+ghost use Rattle.listing.specs.Text.{Put};
+use systems::Codes;
 
-// Three numbers of up to 5 digits, each with a byte after it.
-const LONGEST_LINE: usize = 18;
-
-// Writes the text and begins anew where it leaves no room for a line. Answers how many bytes of the buffer are used.
-pub fn with_room(text: &[u8], used: usize, output: i32) -> usize
-    requires { ⌜ (used ≤ length (now text)) × (18 ≤ length (now text)) ⌝ }
-    ensures { λ r. ⌜ r + 18 ≤ length (now (text .entry)) ⌝ }
+// Puts a word.
+pub fn put_word(text: &mut [u8], used: usize, word: &[u8]) -> usize
+    requires { ⌜ used + length (now word) ≤ length (now text) ⌝ }
+    ensures { λ r. ⌜ Put (now (text .entry)) used (now (word .entry)) (now (text .exit)) r ⌝ }
 {
-    if text.len() - used >= LONGEST_LINE {
-        return used;
+    let mut at = used;
+    let mut i = 0;
+    while i < word.len() {
+        at = put_byte(text, at, word[i]);
+        i += 1;
     }
-    io::write_all(output, &text[..used]);
-    0
+    at
 }
 
-// Puts a line of three numbers after the bytes that are used, and answers how many are used then.
-pub fn put_line(text: &mut [u8], used: usize, a: u16, b: u16, c: u16) -> usize
-    requires { ⌜ used + 18 ≤ length (now text) ⌝ }
-    ensures { λ r. ⌜ r ≤ used + 18 ⌝ }
-{
-    let after_a = put_number(text, used, a, b' ');
-    let after_b = put_number(text, after_a, b, b' ');
-    put_number(text, after_b, c, b'\n')
-}
-
-// Puts a number and the byte that ends it.
-fn put_number(text: &mut [u8], used: usize, x: u16, end: u8) -> usize
-    requires { ⌜ used + 6 ≤ length (now text) ⌝ }
-    ensures { λ r. ⌜ r ≤ used + 6 ⌝ }
-{
-    let after = used + places(x);
-    put_digits(text, used, after, x);
-    text[after] = end;
-    after + 1
-}
-
-// Puts the digits of x from used to after, the last of them first.
-fn put_digits(text: &mut [u8], used: usize, after: usize, x: u16)
-    requires { ⌜ after ≤ length (now text) ⌝ }
-{
-    let mut at = after;
-    let mut rest = x;
-    while at > used {
-        at -= 1;
-        text[at] = glyph(rest % 10);
-        rest /= 10;
-    }
-}
-
-fn glyph(digit: u16) -> u8
-    requires { ⌜ digit < 10 ⌝ }
-{
-    b'0' + digit as u8
-}
-
-// How many digits x takes.
-fn places(x: u16) -> usize
-    ensures { λ r. ⌜ r ≤ 5 ⌝ }
+// Puts a number in decimal: from 10 on the digits of its tenth, then the last digit.
+pub fn put_decimal(text: &mut [u8], used: usize, x: u32) -> usize
+    requires { ⌜ used + length (decimal x) ≤ length (now text) ⌝ }
+    ensures { λ r. ⌜ Put (now (text .entry)) used (decimal x) (now (text .exit)) r ⌝ }
 {
     if x < 10 {
-        1
-    } else if x < 100 {
-        2
-    } else if x < 1000 {
-        3
-    } else if x < 10000 {
-        4
+        put_digit(text, used, x)
     } else {
-        5
+        let last = put_decimal(text, used, x / 10);
+        put_digit(text, last, x % 10)
     }
+}
+
+// Puts a line of R, G and B.
+pub fn put_line(text: &mut [u8], used: usize, codes: Codes) -> usize
+    requires { ⌜ used + 18 ≤ length (now text) ⌝ }
+    ensures { λ r. ⌜ Put (now (text .entry)) used (line codes) (now (text .exit)) r × (r ≤ used + 18) ⌝ }
+{
+    let after_r = put_code(text, used, codes.r, b' ');
+    let after_g = put_code(text, after_r, codes.g, b' ');
+    put_code(text, after_g, codes.b, b'\n')
+}
+
+// Puts a code and the byte after it.
+fn put_code(text: &mut [u8], used: usize, code: u16, end: u8) -> usize
+    requires { ⌜ used + 6 ≤ length (now text) ⌝ }
+    ensures { λ r. ⌜ Put (now (text .entry)) used (decimal code ++ end ∷ []) (now (text .exit)) r × (r ≤ used + 6) ⌝ }
+{
+    let after = put_decimal(text, used, code as u32);
+    put_byte(text, after, end)
+}
+
+fn put_digit(text: &mut [u8], at: usize, digit: u32) -> usize
+    requires { ⌜ (at < length (now text)) × (digit < 10) ⌝ }
+    ensures { λ r. ⌜ Put (now (text .entry)) at (glyph digit ∷ []) (now (text .exit)) r ⌝ }
+{
+    put_byte(text, at, b'0' + digit as u8)
+}
+
+fn put_byte(text: &mut [u8], at: usize, byte: u8) -> usize
+    requires { ⌜ at < length (now text) ⌝ }
+    ensures { λ r. ⌜ Put (now (text .entry)) at (byte ∷ []) (now (text .exit)) r ⌝ }
+{
+    text[at] = byte;
+    at + 1
 }

@@ -1,8 +1,10 @@
 // Nominal R', G', B' and Y' codes. They are written here again, so that a wrong range of the conversion shows as a difference.
-ghost use Prim.Native.Nat.{_≤_};
+ghost use mathlib.Core.Path.{_≡_};
+ghost use Prim.Native.Nat.{_*_, _≤_};
+ghost use Rattle.records.specs.Records.{scaleOf};
 
 fn scale(system: u32) -> u16
-    ensures { λ r. ⌜ (1 ≤ r) × (r ≤ 16) ⌝ }
+    ensures { λ r. ⌜ (r ≡ scaleOf system) × (1 ≤ r) × (r ≤ 16) ⌝ }
 {
     match system {
         1 => 1,
@@ -12,14 +14,16 @@ fn scale(system: u32) -> u16
     }
 }
 
+// 16s.
 pub fn black(system: u32) -> u16
-    ensures { λ r. ⌜ (16 ≤ r) × (r ≤ 256) ⌝ }
+    ensures { λ r. ⌜ (r ≡ 16 * scaleOf system) × (16 ≤ r) × (r ≤ 256) ⌝ }
 {
     16 * scale(system)
 }
 
+// 235s.
 pub fn white(system: u32) -> u16
-    ensures { λ r. ⌜ r ≤ 3760 ⌝ }
+    ensures { λ r. ⌜ (r ≡ 235 * scaleOf system) × (r ≤ 3760) ⌝ }
 {
     235 * scale(system)
 }

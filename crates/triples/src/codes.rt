@@ -1,7 +1,12 @@
 // Words to codes, against the files 'codes' and 'codes_refused'.
+ghost use mathlib.Core.Path.{_≡_};
 ghost use Prim.Native.Nat.{_+_, _≤_};
 ghost use lib.ListN.{length};
-use matrix::Clipped;
+ghost use Rattle.records.specs.Records.{tallyOf};
+ghost use Rattle.triples.specs.Cases.{codesCase, codesMet, codesAt};
+use crate::fields;
+use crate::fields::wide;
+use crate::same;
 use matrix::Decoded;
 use matrix::Words;
 use records::Tally;
@@ -19,50 +24,41 @@ struct Case {
 }
 
 // Compares the answer for each record with it.
-pub fn compare(records: &[u8]) -> Tally {
+pub fn compare(records: &[u8]) -> Tally
+    ensures { λ r. ⌜ r ≡ tallyOf 20 codesAt (now (records .entry)) ⌝ }
+{
     let mut tally = Tally::NONE;
-    let mut at = 0;
-    while records.len() - at >= 20 {
-        tally = tally.with(case_at(records, at).is_met());
-        at += 20;
+    let mut i = 0;
+    while i < records.len() / 20 {
+        tally = tally.with(case_at(records, 20 * i).is_met());
+        i += 1;
     }
-    tally
+    tally.ended(records.len() % 20)
 }
 
 fn case_at(records: &[u8], at: usize) -> Case
     requires { ⌜ at + 20 ≤ length (now records) ⌝ }
+    ensures { λ r. ⌜ r ≡ codesCase (now (records .entry)) at ⌝ }
 {
     Case {
         system: u32_at(records, at),
-        refusal: u16_at(records, at + 4) as u32,
-        words: Words {
-            y: u16_at(records, at + 6),
-            cb: u16_at(records, at + 8),
-            cr: u16_at(records, at + 10),
-        },
-        codes: Codes {
-            r: u16_at(records, at + 12),
-            g: u16_at(records, at + 14),
-            b: u16_at(records, at + 16),
-        },
-        count: u16_at(records, at + 18) as u32,
+        refusal: wide(u16_at(records, at + 4)),
+        words: fields::words(records, at + 6),
+        codes: fields::codes(records, at + 12),
+        count: wide(u16_at(records, at + 18)),
     }
 }
 
 impl Case {
-    fn is_met(self) -> bool {
+    fn is_met(self) -> bool
+        ensures { λ r. ⌜ r ≡ codesMet self ⌝ }
+    {
         match matrix::codes_of_words(self.system, self.words) {
-            Decoded::Codes(found) => self.refusal == 0 && self.has(found),
+            Decoded::Codes(found) => {
+                let same = same::codes(found.codes, self.codes);
+                (self.refusal == 0) & ((found.count == self.count) & same)
+            }
             Decoded::Refused(refusal) => refusal.number() == self.refusal,
         }
-    }
-
-    fn has(self, found: Clipped) -> bool {
-        let codes = found.codes;
-        let wanted = self.codes;
-        found.count == self.count
-            && codes.r == wanted.r
-            && codes.g == wanted.g
-            && codes.b == wanted.b
     }
 }

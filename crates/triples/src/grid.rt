@@ -1,5 +1,13 @@
 // Words of the codes on a grid of system 1, against the file 'grid'.
+ghost use mathlib.Core.Path.{_≡_};
+ghost use Prim.Native.Nat.{_+_, _≤_};
+ghost use lib.ListN.{length};
+ghost use Rattle.matrix.specs.Triples.{wordsOfCodes};
+ghost use Rattle.records.specs.Records.{tallyOf};
+ghost use Rattle.triples.specs.Cases.{level, gridCodes, gridWords, gives, gridAt};
+use crate::same;
 use matrix::Encoded;
+use matrix::Words;
 use records::Tally;
 use systems::Codes;
 
@@ -7,24 +15,22 @@ use systems::Codes;
 const LEVELS: usize = 40;
 
 // Compares the words of each triple on the grid with its record.
-pub fn compare(records: &[u8]) -> Tally {
+pub fn compare(records: &[u8]) -> Tally
+    ensures { λ r. ⌜ r ≡ tallyOf 3 gridAt (now (records .entry)) ⌝ }
+{
     let mut tally = Tally::NONE;
-    let mut at = 0;
-    while records.len() - at >= 3 {
-        let same = has_words(
-            codes_at(at / 3),
-            records[at],
-            records[at + 1],
-            records[at + 2],
-        );
-        tally = tally.with(same);
-        at += 3;
+    let mut i = 0;
+    while i < records.len() / 3 {
+        tally = tally.with(has_words(codes_at(i), words_at(records, 3 * i)));
+        i += 1;
     }
-    tally
+    tally.ended(records.len() % 3)
 }
 
 // The triple at a place of the grid, where B' changes fastest.
-fn codes_at(place: usize) -> Codes {
+fn codes_at(place: usize) -> Codes
+    ensures { λ r. ⌜ r ≡ gridCodes place ⌝ }
+{
     Codes {
         r: level(place / (LEVELS * LEVELS)),
         g: level(place / LEVELS),
@@ -33,13 +39,34 @@ fn codes_at(place: usize) -> Codes {
 }
 
 // The code of a level, which counts again from 0 after the last.
-fn level(i: usize) -> u16 {
+fn level(i: usize) -> u16
+    ensures { λ r. ⌜ r ≡ level i ⌝ }
+{
     (16 + 219 * (i % LEVELS) / (LEVELS - 1)) as u16
 }
 
-fn has_words(codes: Codes, y: u8, cb: u8, cr: u8) -> bool {
+fn words_at(records: &[u8], at: usize) -> Words
+    requires { ⌜ at + 3 ≤ length (now records) ⌝ }
+    ensures { λ r. ⌜ r ≡ gridWords (now (records .entry)) at ⌝ }
+{
+    Words {
+        y: wide(records[at]),
+        cb: wide(records[at + 1]),
+        cr: wide(records[at + 2]),
+    }
+}
+
+fn wide(byte: u8) -> u16
+    ensures { λ r. ⌜ r ≡ byte ⌝ }
+{
+    byte as u16
+}
+
+fn has_words(codes: Codes, words: Words) -> bool
+    ensures { λ r. ⌜ r ≡ gives (wordsOfCodes 1 codes) words ⌝ }
+{
     match matrix::words_of_codes(1, codes) {
-        Encoded::Words(w) => w.y == y as u16 && w.cb == cb as u16 && w.cr == cr as u16,
+        Encoded::Words(w) => same::words(w, words),
         Encoded::Refused(_) => false,
     }
 }

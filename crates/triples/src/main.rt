@@ -1,7 +1,9 @@
 // Compares words of codes and codes of words with the data of an unrelated program, reference/make_triples.py, and writes for each
 // file how many answers it compared and how many differ.
 mod codes;
+mod fields;
 mod grid;
+mod same;
 mod words;
 
 fn main() {

@@ -1,6 +1,12 @@
 // Codes to words, against the files 'words' and 'words_refused'.
+ghost use mathlib.Core.Path.{_≡_};
 ghost use Prim.Native.Nat.{_+_, _≤_};
 ghost use lib.ListN.{length};
+ghost use Rattle.records.specs.Records.{tallyOf};
+ghost use Rattle.triples.specs.Cases.{wordsCase, wordsMet, wordsAt};
+use crate::fields;
+use crate::fields::wide;
+use crate::same;
 use matrix::Encoded;
 use matrix::Words;
 use records::Tally;
@@ -17,42 +23,36 @@ struct Case {
 }
 
 // Compares the answer for each record with it.
-pub fn compare(records: &[u8]) -> Tally {
+pub fn compare(records: &[u8]) -> Tally
+    ensures { λ r. ⌜ r ≡ tallyOf 18 wordsAt (now (records .entry)) ⌝ }
+{
     let mut tally = Tally::NONE;
-    let mut at = 0;
-    while records.len() - at >= 18 {
-        tally = tally.with(case_at(records, at).is_met());
-        at += 18;
+    let mut i = 0;
+    while i < records.len() / 18 {
+        tally = tally.with(case_at(records, 18 * i).is_met());
+        i += 1;
     }
-    tally
+    tally.ended(records.len() % 18)
 }
 
 fn case_at(records: &[u8], at: usize) -> Case
     requires { ⌜ at + 18 ≤ length (now records) ⌝ }
+    ensures { λ r. ⌜ r ≡ wordsCase (now (records .entry)) at ⌝ }
 {
     Case {
         system: u32_at(records, at),
-        refusal: u16_at(records, at + 4) as u32,
-        codes: Codes {
-            r: u16_at(records, at + 6),
-            g: u16_at(records, at + 8),
-            b: u16_at(records, at + 10),
-        },
-        words: Words {
-            y: u16_at(records, at + 12),
-            cb: u16_at(records, at + 14),
-            cr: u16_at(records, at + 16),
-        },
+        refusal: wide(u16_at(records, at + 4)),
+        codes: fields::codes(records, at + 6),
+        words: fields::words(records, at + 12),
     }
 }
 
 impl Case {
-    fn is_met(self) -> bool {
-        let wanted = self.words;
+    fn is_met(self) -> bool
+        ensures { λ r. ⌜ r ≡ wordsMet self ⌝ }
+    {
         match matrix::words_of_codes(self.system, self.codes) {
-            Encoded::Words(w) => {
-                self.refusal == 0 && w.y == wanted.y && w.cb == wanted.cb && w.cr == wanted.cr
-            }
+            Encoded::Words(w) => (self.refusal == 0) & same::words(w, self.words),
             Encoded::Refused(refusal) => refusal.number() == self.refusal,
         }
     }

@@ -1,4 +1,9 @@
 // The codes that 'spans' and 'restored' have a record for, in the order of the records.
+ghost use mathlib.Core.Path.{_≡_};
+ghost use Prim.Native.Nat.{_*_};
+ghost use lib.Dec.{eqb};
+ghost use Rattle.records.specs.Records.{scaleOf};
+ghost use Rattle.vectors.specs.Vectors.{nextPlace};
 use records::black;
 use records::white;
 
@@ -15,7 +20,9 @@ impl Place {
     };
 
     // The next code: the next system's black after white.
-    pub fn next(self) -> Place {
+    pub fn next(self) -> Place
+        ensures { λ r. ⌜ r ≡ nextPlace self ⌝ }
+    {
         let system = self.system;
         let code = self.code;
         if code < white(system) {
@@ -31,7 +38,9 @@ impl Place {
         }
     }
 
-    pub fn is_black(self) -> bool {
+    pub fn is_black(self) -> bool
+        ensures { λ r. ⌜ r ≡ eqb (self .code) (16 * scaleOf (self .system)) ⌝ }
+    {
         self.code == black(self.system)
     }
 }

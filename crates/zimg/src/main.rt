@@ -1,9 +1,9 @@
 // Compares the conversion with rows that zimg made, which reference/zimg_rows.c describes. For each system it writes how many of
 // zimg's words and codes differ from ours, how many by more than one, and in how many samples other components were clipped.
-mod codes;
-mod grid;
+mod comparison;
 mod nearness;
-mod words;
+mod nominal;
+mod sample;
 
 use records::Tally;
 
@@ -17,14 +17,14 @@ fn main() {
 fn check(system: u32, name: &[u8]) {
     let mut buf = [0u8; 131072];
     let n = records::read(name, &mut buf);
-    let words = words::compare(system, &buf[..n]);
+    let found = comparison::compare(system, &buf[..n]);
+    let words = found.words;
     print(system, words.same, b"words");
     print(system, words.near, b"words within one");
-    let codes = codes::compare(system, &buf[..n]);
+    let codes = found.codes;
     print(system, codes.same, b"codes");
     print(system, codes.near, b"codes within one");
-    let clipped = codes::compare_clipped(system, &buf[..n]);
-    print(system, clipped, b"clipped counts");
+    print(system, found.clipped, b"clipped counts");
 }
 
 // Writes a line such as 'system 1 words 24000 compared, 3 differ'.

@@ -1,4 +1,6 @@
 // Counts of the numbers that are the same, and of those that differ by one at most.
+ghost use mathlib.Core.Path.{_≡_};
+ghost use Rattle.zimg.specs.Samples.{apart, nearer, off};
 use records::Tally;
 
 pub struct Nearness {
@@ -13,7 +15,9 @@ impl Nearness {
     };
 
     // One comparison more.
-    pub fn with(self, ours: u16, theirs: u16) -> Nearness {
+    pub fn with(self, ours: u16, theirs: u16) -> Nearness
+        ensures { λ r. ⌜ r ≡ nearer self ours theirs ⌝ }
+    {
         let apart = distance(ours, theirs);
         Nearness {
             same: self.same.with(apart == 0),
@@ -21,8 +25,10 @@ impl Nearness {
         }
     }
 
-    // A sample more whose three components we refuse.
-    pub fn with_refused(self) -> Nearness {
+    // A sample more whose three components we refuse, or which is cut off.
+    pub fn off(self) -> Nearness
+        ensures { λ r. ⌜ r ≡ off self ⌝ }
+    {
         Nearness {
             same: self.same.with(false).with(false).with(false),
             near: self.near.with(false).with(false).with(false),
@@ -30,6 +36,8 @@ impl Nearness {
     }
 }
 
-fn distance(a: u16, b: u16) -> u16 {
+fn distance(a: u16, b: u16) -> u16
+    ensures { λ r. ⌜ r ≡ apart a b ⌝ }
+{
     if a < b { b - a } else { a - b }
 }

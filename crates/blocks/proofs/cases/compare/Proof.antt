@@ -1,70 +1,83 @@
--- `blocks::cases::compare` is safe and ends. The place in the cases stays within them, and what is left of them falls, as each case has its numbers.
--- Assumes nothing.
-use Prim.Native.Nat.{_≤_, _-_}
-use lib.ListN.{length}
+use Prim.Native.Nat.{_+_, _-_, _≤_}
+use mathlib.Core.Path.{_≡_, sym, ap, _∙_}
+use mathlib.Core.Bool.{true}
+use native.Mathlib.Omega.{arith}
+use lib.ListN.{length, length-take, length-drop}
+use denote.Ref.{now}
 use borrow.Author.Needs.{needs}
+use Rattle.blocks.specs.Cases.{caseAt, sizeOf, wholeAt}
+use Rattle.blocks.proofs.Counting.{SoFar, none-yet, one-more, all-counted, whole-fits}
 use Rattle.blocks.proofs.cases.compare.Statement.{statement}
 use Rattle.blocks.proofs.cases.compare.Tie as tie
 
 abbrev Inv-loop : tie.InvT-loop
-Inv-loop cases refusal tally₀ at₀ tally at = at ≤ length cases
+Inv-loop cases refusal tally₀ at₀ tally at = SoFar cases refusal at tally
 
 abbrev μ-loop : tie.MeasureT-loop
 μ-loop cases refusal tally₀ at₀ tally at = length cases - at
 
-loop-holds : tie.Need-loop-holds Inv-loop μ-loop
-loop-holds c = search needs
+-- the case at the loop's place lies within the cases
+here : (c : tie.After-size Inv-loop μ-loop) → wholeAt (now (c .before .before .before .before .before .before .args .cases)) (c .before .before .before .before .loop .at) ≡ true
+here c = sym (c .before .before .before .holds-case .ensures) ∙ c .before .before .if1 .taken
 
-sub-loop : tie.Need-sub-loop Inv-loop μ-loop
-sub-loop c = search needs
+fits : (c : tie.After-size Inv-loop μ-loop) → (c .before .before .before .before .loop .at + 16 ≤ length (now (c .before .before .before .before .before .before .args .cases))) × (c .before .before .before .before .loop .at + sizeOf (caseAt (now (c .before .before .before .before .before .before .args .cases)) (c .before .before .before .before .loop .at)) ≤ length (now (c .before .before .before .before .before .before .args .cases)))
+fits c = whole-fits (now (c .before .before .before .before .before .before .args .cases)) (c .before .before .before .before .loop .at) (here c)
+
+sized : (c : tie.After-size Inv-loop μ-loop) → c .size .result ≡ sizeOf (caseAt (now (c .before .before .before .before .before .before .args .cases)) (c .before .before .before .before .loop .at))
+sized c = c .size .ensures .0 ∙ ap sizeOf (c .before .case-at .ensures)
+
+loop-holds : tie.Need-loop-holds Inv-loop μ-loop
+loop-holds c = none-yet _ _
+
+holds-case-requires : tie.Need-holds-case-requires Inv-loop μ-loop
+holds-case-requires c κs = c .loop .inv .within
 
 case-at-requires : tie.Need-case-at-requires Inv-loop μ-loop
-case-at-requires c κs = search needs
+case-at-requires c κs = omega (arith, whole-fits (now (c .before .before .before .before .args .cases)) (c .before .before .loop .at) (sym (c .before .holds-case .ensures) ∙ c .if1 .taken))
 
 size-requires : tie.Need-size-requires Inv-loop μ-loop
 size-requires c κs = search needs
 
-sub-if1 : tie.Need-sub-if1 Inv-loop μ-loop
-sub-if1 c = search needs
+add-with-case : tie.Need-add-with-case Inv-loop μ-loop
+add-with-case c = omega (arith, fits c, sized c)
 
-with-requires : tie.Need-with-requires Inv-loop μ-loop
-with-requires c κs = search needs
+add-with-case-2 : tie.Need-add-with-case-2 Inv-loop μ-loop
+add-with-case-2 c = omega (arith, fits c, sized c)
 
-returns : tie.Need-returns Inv-loop μ-loop
-returns c = search needs
+sub-with-case : tie.Need-sub-with-case Inv-loop μ-loop
+sub-with-case c = omega (arith, fits c, sized c)
 
-add-is-met : tie.Need-add-is-met Inv-loop μ-loop
-add-is-met c = search needs
+part-with-case-start : tie.Need-part-with-case-start Inv-loop μ-loop
+part-with-case-start c = omega (arith, fits c, sized c)
 
-add-is-met-2 : tie.Need-add-is-met-2 Inv-loop μ-loop
-add-is-met-2 c = search needs
+part-with-case-end : tie.Need-part-with-case-end Inv-loop μ-loop
+part-with-case-end c = omega (arith, fits c, sized c)
 
-sub-is-met : tie.Need-sub-is-met Inv-loop μ-loop
-sub-is-met c = search needs
-
-part-is-met-start : tie.Need-part-is-met-start Inv-loop μ-loop
-part-is-met-start c = search needs
-
-part-is-met-end : tie.Need-part-is-met-end Inv-loop μ-loop
-part-is-met-end c = search needs
-
-is-met-requires : tie.Need-is-met-requires Inv-loop μ-loop
-is-met-requires c κs = search needs
-
-with-requires-2 : tie.Need-with-requires-2 Inv-loop μ-loop
-with-requires-2 c κs = search needs
+with-case-requires : tie.Need-with-case-requires Inv-loop μ-loop
+with-case-requires c κs = simp (length-take, length-drop) (omega (arith, fits (c .before), sized (c .before), c .before .size .ensures .0))
 
 add-at : tie.Need-add-at Inv-loop μ-loop
-add-at c = search needs
+add-at c = omega (arith, fits (c .before .before), sized (c .before .before))
 
 loop-less : tie.Need-loop-less Inv-loop μ-loop
-loop-less c = search needs
+loop-less c = omega (arith, fits (c .before .before), sized (c .before .before))
 
 loop-again : tie.Need-loop-again Inv-loop μ-loop
-loop-again c = search needs
+loop-again c =
+    let at = c .before .before .before .before .before .before .loop .at in
+    let size = c .before .before .size .result in
+    let n : (at + size) - (at + 16) ≡ sizeOf (caseAt (now (c .before .before .before .before .before .before .before .before .args .cases)) at) - 16 = omega (arith, fits (c .before .before), sized (c .before .before)) in
+    let here-tallied = rw (n, c .before .before .before .case-at .ensures) at (c .with-case .ensures) in
+    one-more (c .before .before .before .before .before .before .loop .inv) _ (here (c .before .before)) (sized (c .before .before)) here-tallied
 
-returns-2 : tie.Need-returns-2 Inv-loop μ-loop
-returns-2 c = search needs
+sub-ended : tie.Need-sub-ended Inv-loop μ-loop
+sub-ended c = c .before .before .loop .inv .within
+
+ended-requires : tie.Need-ended-requires Inv-loop μ-loop
+ended-requires c κs = search needs
+
+returns : tie.Need-returns Inv-loop μ-loop
+returns c = all-counted (c .before .before .before .loop .inv) (sym (c .before .before .holds-case .ensures) ∙ c .before .if1 .left) (c .ended .ensures)
 
 pub compare-spec : {M : Type 1} → statement M
 compare-spec =
@@ -73,20 +86,18 @@ compare-spec =
     Inv-loop
     μ-loop
     loop-holds
-    sub-loop
+    holds-case-requires
     case-at-requires
     size-requires
-    sub-if1
-    with-requires
-    returns
-    add-is-met
-    add-is-met-2
-    sub-is-met
-    part-is-met-start
-    part-is-met-end
-    is-met-requires
-    with-requires-2
+    add-with-case
+    add-with-case-2
+    sub-with-case
+    part-with-case-start
+    part-with-case-end
+    with-case-requires
     add-at
     loop-less
     loop-again
-    returns-2)
+    sub-ended
+    ended-requires
+    returns)

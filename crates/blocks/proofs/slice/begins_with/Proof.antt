@@ -1,31 +1,32 @@
--- `blocks::slice::begins_with` is safe and ends. The place stays within the slice, and what is left of it falls.
--- Assumes nothing.
-use Prim.Native.Nat.{_≤_, _-_}
+use Prim.Native.Nat.{_-_, _≤_}
+use mathlib.Core.Path.{_≡_, refl}
+use native.Mathlib.Numerals.{add-one}
+use native.Mathlib.Omega.{arith}
 use lib.ListN.{length}
+use denote.Ref.{now}
 use borrow.Author.Needs.{needs}
+use Rattle.blocks.specs.Cases.{dueTo}
 use Rattle.blocks.proofs.slice.begins_with.Statement.{statement}
 use Rattle.blocks.proofs.slice.begins_with.Tie as tie
 
 abbrev Inv-loop : tie.InvT-loop
-Inv-loop lent codes i₀ i = i ≤ length lent
+Inv-loop lent codes same₀ i₀ same i = (same ≡ dueTo lent codes i) × (i ≤ length lent)
 
 abbrev μ-loop : tie.MeasureT-loop
-μ-loop lent codes i₀ i = length lent - i
+μ-loop lent codes same₀ i₀ same i = length lent - i
 
 loop-holds : tie.Need-loop-holds Inv-loop μ-loop
-loop-holds c = search needs
+unfolding dueTo
+loop-holds c = (refl, search needs)
 
-mul-if1 : tie.Need-mul-if1 Inv-loop μ-loop
-mul-if1 c = search needs
+mul-same : tie.Need-mul-same Inv-loop μ-loop
+mul-same c = search needs
 
-shared-slice-read-if1 : tie.Need-shared-slice-read-if1 Inv-loop μ-loop
-shared-slice-read-if1 c = search needs
+shared-slice-read-same : tie.Need-shared-slice-read-same Inv-loop μ-loop
+shared-slice-read-same c = search needs
 
 due-requires : tie.Need-due-requires Inv-loop μ-loop
 due-requires c κs = search needs
-
-returns : tie.Need-returns Inv-loop μ-loop
-returns c = search needs
 
 add-i : tie.Need-add-i Inv-loop μ-loop
 add-i c = search needs
@@ -34,10 +35,14 @@ loop-less : tie.Need-loop-less Inv-loop μ-loop
 loop-less c = search needs
 
 loop-again : tie.Need-loop-again Inv-loop μ-loop
-loop-again c = search needs
+unfolding dueTo
+loop-again c = (rw (add-one, c .due .ensures, c .before .before .before .loop .inv .0), search needs)
 
-returns-2 : tie.Need-returns-2 Inv-loop μ-loop
-returns-2 c = search needs
+returns : tie.Need-returns Inv-loop μ-loop
+returns c =
+    let l = c .before .loop in
+    let e : l .i ≡ length (now (c .before .before .before .before .args .lent)) = omega (arith, l .inv .1, c .loop-test .left) in
+    rw (l .inv .0, e)
 
 pub begins-with-spec : {M : Type 1} → statement M
 begins-with-spec =
@@ -46,11 +51,10 @@ begins-with-spec =
     Inv-loop
     μ-loop
     loop-holds
-    mul-if1
-    shared-slice-read-if1
+    mul-same
+    shared-slice-read-same
     due-requires
-    returns
     add-i
     loop-less
     loop-again
-    returns-2)
+    returns)

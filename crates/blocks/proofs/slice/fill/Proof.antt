@@ -1,44 +1,43 @@
--- `blocks::slice::fill` is safe and ends. The slice keeps its length, the place stays within it, and what is left of it falls.
--- Assumes nothing.
-use Prim.Native.Nat.{_≤_, _-_}
-use mathlib.Core.Path.{_≡_}
+use Prim.Native.Nat.{_-_}
+use native.Mathlib.Omega.{arith}
 use lib.ListN.{length}
 use borrow.Author.Needs.{needs}
+use Rattle.blocks.proofs.Slices.{FilledTo, none-filled, one-filled, filled-long, all-filled}
 use Rattle.blocks.proofs.slice.fill.Statement.{statement}
 use Rattle.blocks.proofs.slice.fill.Tie as tie
 
 abbrev Inv-loop : tie.InvT-loop
-Inv-loop lent₀ i₀ lent i = (i ≤ length lent₀) × (length lent ≡ length lent₀)
+Inv-loop lent₀ i₀ lent i = FilledTo lent₀ i lent
 
 abbrev μ-loop : tie.MeasureT-loop
 μ-loop lent₀ i₀ lent i = length lent₀ - i
 
 loop-holds : tie.Need-loop-holds Inv-loop μ-loop
-loop-holds c = search needs
+loop-holds c = none-filled _
 
 before-requires : tie.Need-before-requires Inv-loop μ-loop
 before-requires c κs = search needs
 
 mul-lent : tie.Need-mul-lent Inv-loop μ-loop
-mul-lent c = search needs
+mul-lent c = omega (arith, filled-long (c .before .before .loop .inv))
 
 slice-write-lent : tie.Need-slice-write-lent Inv-loop μ-loop
-slice-write-lent c = search needs
+slice-write-lent c = omega (arith, filled-long (c .before .before .loop .inv))
 
 add-i : tie.Need-add-i Inv-loop μ-loop
 add-i c = search needs
 
 loop-less : tie.Need-loop-less Inv-loop μ-loop
-loop-less c = search needs
+loop-less c = omega (arith, filled-long (c .before .before .loop .inv))
 
 loop-again : tie.Need-loop-again Inv-loop μ-loop
-loop-again c = search needs
+loop-again c = one-filled (c .before .before .loop .inv) (c .before .loop-test .taken) (c .before2 .ensures)
 
 same-length : tie.Need-same-length Inv-loop μ-loop
-same-length c = search needs
+same-length c = filled-long (c .before .loop .inv)
 
 returns : tie.Need-returns Inv-loop μ-loop
-returns c = search needs
+returns c = all-filled (c .before .loop .inv) (c .loop-test .left)
 
 pub fill-spec : {M : Type 1} → statement M
 fill-spec =

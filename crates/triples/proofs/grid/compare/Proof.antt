@@ -1,40 +1,28 @@
--- `triples::grid::compare` is safe and ends. The place in the records stays within them, and what is left of them falls.
--- Assumes nothing.
-use Prim.Native.Nat.{_≤_, _-_}
+use Prim.Native.Nat.{_-_, _/_}
 use lib.ListN.{length}
 use borrow.Author.Needs.{needs}
+use Rattle.records.proofs.Counting.{Counted, none-yet, one-more, all-counted}
+use Rattle.triples.specs.Cases.{gridAt}
 use Rattle.triples.proofs.grid.compare.Statement.{statement}
 use Rattle.triples.proofs.grid.compare.Tie as tie
 
 abbrev Inv-loop : tie.InvT-loop
-Inv-loop records tally₀ at₀ tally at = at ≤ length records
+Inv-loop records tally₀ i₀ tally i = Counted (gridAt records) (length records / 3) i tally
 
 abbrev μ-loop : tie.MeasureT-loop
-μ-loop records tally₀ at₀ tally at = length records - at
+μ-loop records tally₀ i₀ tally i = length records / 3 - i
 
 loop-holds : tie.Need-loop-holds Inv-loop μ-loop
-loop-holds c = search needs
-
-sub-loop : tie.Need-sub-loop Inv-loop μ-loop
-sub-loop c = search needs
+loop-holds c = none-yet _ _
 
 codes-at-requires : tie.Need-codes-at-requires Inv-loop μ-loop
 codes-at-requires c κs = search needs
 
-shared-slice-read-has-words : tie.Need-shared-slice-read-has-words Inv-loop μ-loop
-shared-slice-read-has-words c = search needs
+mul-words-at : tie.Need-mul-words-at Inv-loop μ-loop
+mul-words-at c = search needs
 
-add-has-words : tie.Need-add-has-words Inv-loop μ-loop
-add-has-words c = search needs
-
-shared-slice-read-has-words-2 : tie.Need-shared-slice-read-has-words-2 Inv-loop μ-loop
-shared-slice-read-has-words-2 c = search needs
-
-add-has-words-2 : tie.Need-add-has-words-2 Inv-loop μ-loop
-add-has-words-2 c = search needs
-
-shared-slice-read-has-words-3 : tie.Need-shared-slice-read-has-words-3 Inv-loop μ-loop
-shared-slice-read-has-words-3 c = search needs
+words-at-requires : tie.Need-words-at-requires Inv-loop μ-loop
+words-at-requires c κs = search needs
 
 has-words-requires : tie.Need-has-words-requires Inv-loop μ-loop
 has-words-requires c κs = search needs
@@ -42,17 +30,22 @@ has-words-requires c κs = search needs
 with-requires : tie.Need-with-requires Inv-loop μ-loop
 with-requires c κs = search needs
 
-add-at : tie.Need-add-at Inv-loop μ-loop
-add-at c = search needs
+add-i : tie.Need-add-i Inv-loop μ-loop
+add-i c = search needs
 
 loop-less : tie.Need-loop-less Inv-loop μ-loop
 loop-less c = search needs
 
 loop-again : tie.Need-loop-again Inv-loop μ-loop
-loop-again c = search needs
+loop-again c =
+    let here = rw (c .before .before .before .codes-at .ensures, c .before .before .words-at .ensures) at (c .before .has-words .ensures) in
+    one-more (c .before .before .before .before .before .loop .inv) (c .before .before .before .before .loop-test .taken) here (c .with .ensures)
+
+ended-requires : tie.Need-ended-requires Inv-loop μ-loop
+ended-requires c κs = search needs
 
 returns : tie.Need-returns Inv-loop μ-loop
-returns c = search needs
+returns c = all-counted (c .before .before .loop .inv) _ (c .before .loop-test .left) (c .ended .ensures)
 
 pub compare-spec : {M : Type 1} → statement M
 compare-spec =
@@ -61,16 +54,13 @@ compare-spec =
     Inv-loop
     μ-loop
     loop-holds
-    sub-loop
     codes-at-requires
-    shared-slice-read-has-words
-    add-has-words
-    shared-slice-read-has-words-2
-    add-has-words-2
-    shared-slice-read-has-words-3
+    mul-words-at
+    words-at-requires
     has-words-requires
     with-requires
-    add-at
+    add-i
     loop-less
     loop-again
+    ended-requires
     returns)

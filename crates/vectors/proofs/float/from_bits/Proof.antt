@@ -1,14 +1,18 @@
--- `vectors::float::from_bits` is safe: a pattern is a NaN's exactly where it is above infinity's without its sign.
--- Assumes nothing.
-use mathlib.Core.Bool.{Bool, not}
-use mathlib.Core.Path.{sym, subst, _∙_}
-use borrow.Author.Needs.{needs}
-use borrow.Author.Tests.{le-ltb}
+use mathlib.Core.Bool.{Bool, true, not, false≢true}
+use mathlib.Core.Path.{_≡_, refl, sym, subst, _∙_}
+use borrow.Author.Tests.{lt-ltb, le-ltb}
 use lib.Dec.{T}
-use lib.Ieee.{binary32}
-use lib.Ieee.Bits.{nanBits-above}
+use lib.Ieee.{Float, nan, inf, fin, isNan, binary32}
+use lib.Ieee.Bits.{nanBits-is, nanBits-above}
+use borrow.Author.Needs.{needs}
 use Rattle.vectors.proofs.float.from_bits.Statement.{statement}
 use Rattle.vectors.proofs.float.from_bits.Tie as tie
+
+is-nan : (x : Float) → isNan x ≡ true → nan ≡ x
+unfolding isNan
+is-nan nan e = refl
+is-nan (inf s) e = absurd (false≢true e)
+is-nan (fin s m k) e = absurd (false≢true e)
 
 float-from-bits-result : tie.Need-float-from-bits-result
 float-from-bits-result c =
@@ -21,7 +25,7 @@ returns : tie.Need-returns
 returns c = search needs
 
 returns-2 : tie.Need-returns-2
-returns-2 c = search needs
+returns-2 c = c .not-a-number .ensures ∙ is-nan _ (sym (nanBits-is binary32 (c .before .before .args .bits)) ∙ nanBits-above binary32 (c .before .before .args .bits) ∙ lt-ltb _ _ (c .before .if1 .left))
 
 pub from-bits-spec : {M : Type 1} → statement M
 from-bits-spec =

@@ -1,8 +1,5 @@
--- `vectors::float::has_bits` is safe: a float that equals itself is no NaN.
--- Assumes nothing.
 use mathlib.Core.Bool.{true, not}
 use mathlib.Core.Path.{_≡_, sym, subst}
-use borrow.Author.Needs.{needs}
 use lib.Dec.{T}
 use lib.Ieee.{Float, nan, inf, fin, eq, isNan}
 use Rattle.vectors.proofs.float.has_bits.Statement.{statement}
@@ -18,10 +15,10 @@ float-to-bits-result : tie.Need-float-to-bits-result
 float-to-bits-result c = no-nan _ (c .if1 .taken)
 
 returns : tie.Need-returns
-returns c = search needs
+returns c = simp (c .if1 .taken)
 
 returns-2 : tie.Need-returns-2
-returns-2 c = search needs
+returns-2 c = simp (c .if1 .left)
 
 pub has-bits-spec : {M : Type 1} → statement M
 has-bits-spec = tie.close (tie.spec float-to-bits-result returns returns-2)

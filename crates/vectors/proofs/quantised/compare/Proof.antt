@@ -1,58 +1,51 @@
--- `vectors::quantised::compare` is safe and ends. The place in the records stays within them, and what is left of them falls.
--- Assumes nothing.
-use Prim.Native.Nat.{_≤_, _-_}
+use Prim.Native.Nat.{_-_, _/_, _≤_}
+use mathlib.Core.Path.{_≡_, refl}
+use native.Mathlib.Numerals.{add-one}
+use native.Mathlib.Omega.{arith}
 use lib.ListN.{length}
+use denote.Ref.{now}
 use borrow.Author.Needs.{needs}
+use Rattle.vectors.specs.Vectors.{signalsTo}
 use Rattle.vectors.proofs.quantised.compare.Statement.{statement}
 use Rattle.vectors.proofs.quantised.compare.Tie as tie
 
 abbrev Inv-loop : tie.InvT-loop
-Inv-loop records tally₀ at₀ tally at = at ≤ length records
+Inv-loop records tally₀ i₀ tally i = (tally ≡ signalsTo records i) × (i ≤ length records / 8)
 
 abbrev μ-loop : tie.MeasureT-loop
-μ-loop records tally₀ at₀ tally at = length records - at
+μ-loop records tally₀ i₀ tally i = length records / 8 - i
 
 loop-holds : tie.Need-loop-holds Inv-loop μ-loop
-loop-holds c = search needs
+unfolding signalsTo
+loop-holds c = (refl, search needs)
 
-sub-loop : tie.Need-sub-loop Inv-loop μ-loop
-sub-loop c = search needs
+mul-case-at : tie.Need-mul-case-at Inv-loop μ-loop
+mul-case-at c = search needs
 
-u16-at-requires : tie.Need-u16-at-requires Inv-loop μ-loop
-u16-at-requires c κs = search needs
-
-cast-t9 : tie.Need-cast-t9 Inv-loop μ-loop
-cast-t9 c = search needs
-
-add-u16-at : tie.Need-add-u16-at Inv-loop μ-loop
-add-u16-at c = search needs
-
-u16-at-requires-2 : tie.Need-u16-at-requires-2 Inv-loop μ-loop
-u16-at-requires-2 c κs = search needs
-
-add-u32-at : tie.Need-add-u32-at Inv-loop μ-loop
-add-u32-at c = search needs
-
-u32-at-requires : tie.Need-u32-at-requires Inv-loop μ-loop
-u32-at-requires c κs = search needs
-
-from-bits-requires : tie.Need-from-bits-requires Inv-loop μ-loop
-from-bits-requires c κs = search needs
+case-at-requires : tie.Need-case-at-requires Inv-loop μ-loop
+case-at-requires c κs = search needs
 
 compare-requires : tie.Need-compare-requires Inv-loop μ-loop
 compare-requires c κs = search needs
 
-add-at : tie.Need-add-at Inv-loop μ-loop
-add-at c = search needs
+add-i : tie.Need-add-i Inv-loop μ-loop
+add-i c = search needs
 
 loop-less : tie.Need-loop-less Inv-loop μ-loop
 loop-less c = search needs
 
 loop-again : tie.Need-loop-again Inv-loop μ-loop
-loop-again c = search needs
+unfolding signalsTo
+loop-again c = (rw (add-one, c .compare .ensures, c .before .case-at .ensures, c .before .before .before .loop .inv .0), search needs)
+
+ended-requires : tie.Need-ended-requires Inv-loop μ-loop
+ended-requires c κs = search needs
 
 returns : tie.Need-returns Inv-loop μ-loop
-returns c = search needs
+returns c =
+    let l = c .before .before .loop in
+    let e : l .i ≡ length (now (c .before .before .before .before .args .records)) / 8 = omega (arith, l .inv .1, c .before .loop-test .left) in
+    rw (c .ended .ensures, l .inv .0, e)
 
 pub compare-spec : {M : Type 1} → statement M
 compare-spec =
@@ -61,16 +54,11 @@ compare-spec =
     Inv-loop
     μ-loop
     loop-holds
-    sub-loop
-    u16-at-requires
-    cast-t9
-    add-u16-at
-    u16-at-requires-2
-    add-u32-at
-    u32-at-requires
-    from-bits-requires
+    mul-case-at
+    case-at-requires
     compare-requires
-    add-at
+    add-i
     loop-less
     loop-again
+    ended-requires
     returns)

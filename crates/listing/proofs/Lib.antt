@@ -1,0 +1,4 @@
+pub mod Digits
+pub mod Example
+pub mod Listed
+pub mod Pieces

@@ -9,7 +9,7 @@ use lib.Dec.{ltb}
 use lib.IntN.{ℤ, pos, negsuc, natAbs, subℕ, _+ℤ_}
 use lib.Signed.{ltZ}
 use mir.Val.{boolByte}
-use borrow.Author.Tests.{ltb-true, ltb-false, lt-ltb, le-ltb}
+use borrow.Author.Tests.{ltb-false, lt-ltb, le-ltb}
 use Rattle.exact.proofs.Order.{below-or-not}
 use Rattle.exact.proofs.Difference.{sub-pos, sub-neg, pos-sub, sub-eq}
 use Rattle.systems.specs.declared.Codes.{Codes}
@@ -19,6 +19,7 @@ use Rattle.matrix.specs.declared.Clipped.{Clipped}
 use Rattle.matrix.specs.declared.Words.{Words}
 use Rattle.matrix.specs.Triples.{whole, clipped, beyond, codesAt}
 use Rattle.matrix.specs.Inner.{TwelveBitWords, unclippedAt}
+use Rattle.matrix.proofs.Clipping.{clipped-by, counted}
 use Rattle.matrix.proofs.DecodingRows.{unclipped-small}
 use Rattle.block.specs.Inner.{biased, unbiased, biasedTriple, Clippable, oneOf, atLeast, atMost}
 
@@ -51,11 +52,11 @@ high-test v high = go (below-or-not v 16384) (below-or-not (high + 16384) v)
     go (inr h) (inl k) = rw (sub-pos v 16384 h, lt-ltb (high + 16384) v k) (lt-ltb high (v - 16384) (omega arith))
     go (inr h) (inr k) = rw (sub-pos v 16384 h, le-ltb (high + 16384) v k) (le-ltb high (v - 16384) (omega arith))
 
--- clipped and counted by those tests
+-- ---- clipped and counted by those tests
 module _ (n : Range) (v : ℕ) where
-  clipped-by : (l h : Bool) → ltb v (n .low + 16384) ≡ l → ltb (n .high + 16384) v ≡ h
+  code : (l h : Bool) → ltb v (n .low + 16384) ≡ l → ltb (n .high + 16384) v ≡ h
       → elim l [ true ↦ n .low | false ↦ elim h [ true ↦ n .high | false ↦ whole (unbiased v) ] ] ≡ clipped n (unbiased v)
-  clipped-by l h p q = sym (λ i. elim ((low-test v (n .low) ∙ p) i) [ true ↦ n .low | false ↦ elim ((high-test v (n .high) ∙ q) i) [ true ↦ n .high | false ↦ whole (unbiased v) ] ])
+  code l h p q = clipped-by n (unbiased v) l h (low-test v (n .low) ∙ p) (high-test v (n .high) ∙ q)
 
   -- held between the biased ends and taken down again
   pub held : Clippable n → let k = atMost (atLeast v (n .low + 16384)) (n .high + 16384) in (16384 ≤ k) × (k - 16384 ≡ clipped n (unbiased v))
@@ -68,27 +69,18 @@ module _ (n : Range) (v : ℕ) where
       go true h p q =
           let low : n .low + 16384 - 16384 ≡ n .low = omega arith in
           let end = le-ltb (n .high + 16384) (n .low + 16384) (omega (arith, c .in-order)) in
-          subst (λ (b : Bool). Held (oneOf b (n .high + 16384) (n .low + 16384))) (sym end) (omega arith, low ∙ clipped-by true h p q)
+          subst (λ (b : Bool). Held (oneOf b (n .high + 16384) (n .low + 16384))) (sym end) (omega arith, low ∙ code true h p q)
       go false true p q =
           let high : n .high + 16384 - 16384 ≡ n .high = omega arith in
-          subst (λ (b : Bool). Held (oneOf b (n .high + 16384) v)) (sym q) (omega arith, high ∙ clipped-by false true p q)
+          subst (λ (b : Bool). Held (oneOf b (n .high + 16384) v)) (sym q) (omega arith, high ∙ code false true p q)
       go false false p q =
           let above = ltb-false v (n .low + 16384) p in
-          subst (λ (b : Bool). Held (oneOf b (n .high + 16384) v)) (sym q) (omega arith, ap whole (sym (sub-pos v 16384 (omega arith))) ∙ clipped-by false false p q)
+          subst (λ (b : Bool). Held (oneOf b (n .high + 16384) v)) (sym q) (omega arith, ap whole (sym (sub-pos v 16384 (omega arith))) ∙ code false false p q)
 
-  beyond-by : (l h : Bool) → ltb v (n .low + 16384) ≡ l → ltb (n .high + 16384) v ≡ h → elim l [ true ↦ 1 | false ↦ elim h [ true ↦ 1 | false ↦ 0 ] ] ≡ beyond n (unbiased v)
-  beyond-by l h p q = sym (λ i. elim ((low-test v (n .low) ∙ p) i) [ true ↦ 1 | false ↦ elim ((high-test v (n .high) ∙ q) i) [ true ↦ 1 | false ↦ 0 ] ])
-
-  pub counted : Clippable n →
+  pub beyond-biased : Clippable n →
       let k = boolByte (ltb v (n .low + 16384)) + boolByte (ltb (n .high + 16384) v) in
       (k ≡ beyond n (unbiased v)) × (k ≤ 1)
-  counted c = go (ltb v (n .low + 16384)) (ltb (n .high + 16384) v) refl refl
-    where
-      go : (l h : Bool) → ltb v (n .low + 16384) ≡ l → ltb (n .high + 16384) v ≡ h → (boolByte l + boolByte h ≡ beyond n (unbiased v)) × (boolByte l + boolByte h ≤ 1)
-      go true true p q = absurd (omega (arith, c .in-order, ltb-true v (n .low + 16384) p, ltb-true (n .high + 16384) v q))
-      go true false p q = (beyond-by true false p q, omega arith)
-      go false true p q = (beyond-by false true p q, omega arith)
-      go false false p q = (beyond-by false false p q, omega arith)
+  beyond-biased c = rw (← (low-test v (n .low)), ← (high-test v (n .high))) (counted n (unbiased v) (c .in-order))
 
 -- ---- of a sample's words
 -- a biased triple clipped to 16s to 235s, and the count of those that were

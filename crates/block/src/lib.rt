@@ -157,12 +157,12 @@ fn section_at(bytes: &[u8], at: usize, counts: Range) -> Counted
         return Counted::Refused(Refusal::BlockEnd);
     }
     let w = field_at(bytes, at);
-    let counted = counts.holds(w);
-    let whole = at + 2 + 2 * w as usize <= bytes.len();
-    if !counted {
+    let allowed = counts.holds(w);
+    let complete = at + 2 + 2 * w as usize <= bytes.len();
+    if !allowed {
         return Counted::Refused(Refusal::Count);
     }
-    if !whole {
+    if !complete {
         return Counted::Refused(Refusal::BlockEnd);
     }
     Counted::Count(w)

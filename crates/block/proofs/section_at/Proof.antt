@@ -25,17 +25,17 @@ field-at-requires c κs = search needs
 holds-requires : tie.Need-holds-requires
 holds-requires c κs = search needs
 
-add-whole : tie.Need-add-whole
-add-whole c = search needs
+add-complete : tie.Need-add-complete
+add-complete c = search needs
 
-cast-whole : tie.Need-cast-whole
-cast-whole c = search needs
+cast-complete : tie.Need-cast-complete
+cast-complete c = search needs
 
-mul-whole : tie.Need-mul-whole
-mul-whole c = search needs
+mul-complete : tie.Need-mul-complete
+mul-complete c = search needs
 
-add-whole-2 : tie.Need-add-whole-2
-add-whole-2 c = search needs
+add-complete-2 : tie.Need-add-complete-2
+add-complete-2 c = search needs
 
 returns-2 : tie.Need-returns-2
 returns-2 c = rw (le-leb _ _ (c .before .before .before .if1 .left), sym (c .before .before .field-at .ensures), sym (c .before .holds .ensures) ∙ not-true _ (c .if2 .taken))
@@ -54,10 +54,10 @@ section-at-spec =
     returns
     field-at-requires
     holds-requires
-    add-whole
-    cast-whole
-    mul-whole
-    add-whole-2
+    add-complete
+    cast-complete
+    mul-complete
+    add-complete-2
     returns-2
     returns-3
     returns-4)

@@ -2,7 +2,7 @@
 -- Assumes nothing.
 use mathlib.Core.Path.{_≡_, refl, sym, ap, _∙_}
 use mathlib.Core.List.{List, [], _∷_}
-use Prim.Native.Nat.{ℕ, _+_, _*_, _-_, _^_, _≤_}
+use Prim.Native.Nat.{ℕ, _+_, _*_, _-_, _^_, _≤_, _<_}
 use native.Mathlib.Omega.{arith}
 use lib.Dec.{lit≤}
 use lib.IntN.{ℤ, pos, natAbs, subℕ, _+ℤ_, _-ℤ_, _*ℤ_}
@@ -13,8 +13,9 @@ use Rattle.systems.specs.declared.Codes.{Codes}
 use Rattle.systems.specs.declared.Matrix.{Matrix}
 use Rattle.systems.specs.declared.Matrix.the-variants.{Bt709, Bt2020}
 use Rattle.systems.specs.Systems.{kr, kg, kb}
-use Rattle.matrix.specs.Triples.{weighted, difference}
-use Rattle.matrix.specs.Inner.{NominalCodes, Small, dotted, encodingRows, colourDifference}
+use Rattle.matrix.specs.Triples.{weighted, difference, encodedAt}
+use Rattle.matrix.specs.Inner.{NominalCodes, TwelveBitCodes, WordSized, Small, dotted, encodingRows, colourDifference}
+use Rattle.matrix.proofs.Nominal.{words-of}
 
 -- what the rows multiply
 abbrev pub column : Codes → List ℤ
@@ -60,7 +61,7 @@ difference-is x c m k v =
     ap (λ (z : ℤ). rounded record { top = z; bottom = b }) top
 
 -- ---- size
-module _ (s : ℕ) (c : Codes) (S : s ≤ 16) (n : NominalCodes s c) where
+module _ (c : Codes) (n : TwelveBitCodes c) where
   small : (a b d : ℤ) → natAbs a ≤ 10000 → natAbs b ≤ 10000 → natAbs d ≤ 10000 → Small (a ∷ b ∷ d ∷ []) (column c)
   small a b d h k l = record { first = omega arith; others = omega arith; triple-0 = omega (arith, n); triple-1 = omega (arith, n); triple-2 = omega (arith, n) }
 
@@ -69,9 +70,26 @@ module _ (s : ℕ) (c : Codes) (S : s ≤ 16) (n : NominalCodes s c) where
   rows-small Bt709 = (small _ _ _ (lit≤ tt) (lit≤ tt) (lit≤ tt), small _ _ _ (lit≤ tt) (lit≤ tt) (lit≤ tt), small _ _ _ (lit≤ tt) (lit≤ tt) (lit≤ tt))
   rows-small Bt2020 = (small _ _ _ (lit≤ tt) (lit≤ tt) (lit≤ tt), small _ _ _ (lit≤ tt) (lit≤ tt) (lit≤ tt), small _ _ _ (lit≤ tt) (lit≤ tt) (lit≤ tt))
 
-  pub luma-small : (x : Matrix) → weighted x c ≤ 10000 * 3760
+  pub luma-small : (x : Matrix) → weighted x c ≤ 10000 * 4095
   luma-small Bt709 = omega (arith, n)
   luma-small Bt2020 = omega (arith, n)
 
-  pub above-small : (x : Matrix) (v : ℕ) → v ≤ 235 * s → natAbs (above x c v) ≤ 2 ^ 26
+  pub above-small : (x : Matrix) (v : ℕ) → v < 2 ^ 12 → natAbs (above x c v) ≤ 2 ^ 26
   above-small x v h = rw (pos-less (weighted x c) (10000 * v)) (sub-size (weighted x c) (10000 * v) (2 ^ 26) (omega (arith, luma-small x)) (omega arith))
+
+pub twelve-bit-codes : (s : ℕ) (c : Codes) → s ≤ 16 → NominalCodes s c → TwelveBitCodes c
+twelve-bit-codes s c S n = record { r-high = omega (arith, n .r-high); g-high = omega (arith, n .g-high); b-high = omega (arith, n .b-high) }
+
+-- the words of nominal codes
+pub word-sized : (x : Matrix) (s : ℕ) (c : Codes) → s ≤ 16 → NominalCodes s c → WordSized (encodedAt x s c)
+word-sized x s c S n =
+    let v = words-of x s c n in
+    record {
+      y = v .y .value;
+      cb = v .cb .value;
+      cr = v .cr .value;
+      is = λ i. record { y = v .y .is i; cb = v .cb .is i; cr = v .cr .is i };
+      y-high = omega (arith, v .y .at-most);
+      cb-high = omega (arith, v .cb .at-most);
+      cr-high = omega (arith, v .cr .at-most);
+    }

@@ -1,6 +1,7 @@
 -- Inner definitions: each matrix as three rows of three whole numbers, and fixed point. Nothing here has to be believed.
 -- Definitions only.
 use Prim.Native.Nat.{ℕ, _+_, _*_, _-_, _/_, _^_, _≤_, _<_}
+use mathlib.Core.Path.{_≡_}
 use mathlib.Core.List.{List, [], _∷_}
 use lib.IntN.{ℤ, pos, negℤ, natAbs, _+ℤ_, _-ℤ_, _*ℤ_}
 use lib.ListN.{getD}
@@ -12,6 +13,7 @@ use Rattle.exact.specs.Signed.{Ratio, rounded}
 use Rattle.systems.specs.declared.Codes.{Codes}
 use Rattle.matrix.specs.declared.Words.{Words}
 use Rattle.matrix.specs.declared.Unclipped.{Unclipped}
+use Rattle.matrix.specs.declared.Unlimited.{Unlimited}
 use Rattle.matrix.specs.Triples.{redOf, greenOf, blueOf}
 
 -- the codes R, G and B that a triple holds
@@ -35,11 +37,26 @@ pub record NominalWords (s : ℕ) (w : Words) : Type 0 where
   pub cr-low : 16 * s ≤ w .cr
   pub cr-high : w .cr ≤ 240 * s
 
--- words of at most 12 bits
+-- codes and words of at most 12 bits
+pub record TwelveBitCodes (c : Codes) : Type 0 where
+  pub r-high : c .r < 2 ^ 12
+  pub g-high : c .g < 2 ^ 12
+  pub b-high : c .b < 2 ^ 12
+
 pub record TwelveBitWords (w : Words) : Type 0 where
   pub y-high : w .y < 2 ^ 12
   pub cb-high : w .cb < 2 ^ 12
   pub cr-high : w .cr < 2 ^ 12
+
+-- numbers that a word holds
+pub record WordSized (v : Unlimited) : Type 0 where
+  pub y : ℕ
+  pub cb : ℕ
+  pub cr : ℕ
+  pub is : v ≡ record { y = pos y; cb = pos cb; cr = pos cr }
+  pub y-high : y < 2 ^ 16
+  pub cb-high : cb < 2 ^ 16
+  pub cr-high : cr < 2 ^ 16
 
 -- a row by a triple
 abbrev pub dotted : List ℤ → List ℤ → ℤ

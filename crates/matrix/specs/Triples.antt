@@ -13,6 +13,7 @@ use Rattle.systems.specs.declared.System.{System}
 use Rattle.systems.specs.Systems.{matrix, scale, kr, kg, kb, nominal, nominalDifference, within, allWithin, named}
 use Rattle.systems.specs.Refusals.{refusal}
 use Rattle.matrix.specs.declared.Words.{Words}
+use Rattle.matrix.specs.declared.Unlimited.{Unlimited}
 use Rattle.matrix.specs.declared.Clipped.{Clipped}
 use Rattle.matrix.specs.declared.Encoded.{Encoded}
 use Rattle.matrix.specs.declared.Encoded.the-variants as encoded
@@ -46,9 +47,17 @@ abbrev pub whole : ℤ → ℕ
 whole (pos n) = n
 whole (negsuc n) = 0
 
--- the words of a triple of nominal codes; none of the three roundings is below 0
+-- Y', Cb and Cr of a code triple
+abbrev pub encodedAt : Matrix → ℕ → Codes → Unlimited
+encodedAt x s c = record { y = rounded (luma x c); cb = rounded (cbOf x s c); cr = rounded (crOf x s c) }
+
+-- as words, where none is below 0
+abbrev pub worded : Unlimited → Words
+worded v = record { y = whole (v .y); cb = whole (v .cb); cr = whole (v .cr) }
+
+-- the words of a triple of nominal codes
 unfoldable pub wordsAt : Matrix → ℕ → Codes → Words
-wordsAt x s c = record { y = whole (rounded (luma x c)); cb = whole (rounded (cbOf x s c)); cr = whole (rounded (crOf x s c)) }
+wordsAt x s c = worded (encodedAt x s c)
 
 -- the signed difference C - m, cb or cr
 abbrev pub signed : ℕ → ℕ → ℤ

@@ -12,8 +12,8 @@ ghost use lib.Signed.{_<ℤ_};
 ghost use Rattle.exact.specs.Signed.{rounded};
 ghost use Rattle.systems.specs.declared.Matrix.the-variants.{Bt709, Bt2020};
 ghost use Rattle.systems.specs.Systems.{matrix, scale};
-ghost use Rattle.matrix.specs.Triples.{wordsAt, codesAt, wordsOfCodes, codesOfWords, toldWords, toldCodes, wordsWithin, clipped, beyond};
-ghost use Rattle.matrix.specs.Inner.{triple, NominalCodes, TwelveBitWords, Small, dotted, encodingRows, colourDifference, decodingRows, unclippedAt, fixed, fromFixed, InOrder};
+ghost use Rattle.matrix.specs.Triples.{encodedAt, worded, wordsAt, codesAt, wordsOfCodes, codesOfWords, toldWords, toldCodes, wordsWithin, clipped, beyond};
+ghost use Rattle.matrix.specs.Inner.{triple, NominalCodes, TwelveBitCodes, TwelveBitWords, WordSized, Small, dotted, encodingRows, colourDifference, decodingRows, unclippedAt, fixed, fromFixed, InOrder};
 
 // Y', Cb and Cr words of a sample.
 #[repr(C)]
@@ -21,6 +21,13 @@ pub struct Words {
     pub y: u16,
     pub cb: u16,
     pub cr: u16,
+}
+
+// Y', Cb and Cr of a sample's codes before they are words.
+pub struct Unlimited {
+    pub y: i64,
+    pub cb: i64,
+    pub cr: i64,
 }
 
 // R, G and B of a sample's words before they are clipped: some are below 0 or above the greatest code.
@@ -130,7 +137,7 @@ pub fn words_709(y: System, c: [usize; 3]) -> Words
     requires { ⌜ NominalCodes (scale y) (triple c) ⌝ }
     ensures { λ r. ⌜ r ≡ wordsAt Bt709 (scale y) (triple c) ⌝ }
 {
-    words_by(Matrix::Bt709, y, c)
+    to_words(unlimited_by(Matrix::Bt709, y, c))
 }
 
 // The codes' words by BT.2020's matrix.
@@ -138,22 +145,34 @@ pub fn words_2020(y: System, c: [usize; 3]) -> Words
     requires { ⌜ NominalCodes (scale y) (triple c) ⌝ }
     ensures { λ r. ⌜ r ≡ wordsAt Bt2020 (scale y) (triple c) ⌝ }
 {
-    words_by(Matrix::Bt2020, y, c)
+    to_words(unlimited_by(Matrix::Bt2020, y, c))
+}
+
+// Y', Cb and Cr as words.
+fn to_words(v: Unlimited) -> Words
+    requires { ⌜ WordSized v ⌝ }
+    ensures { λ r. ⌜ r ≡ worded v ⌝ }
+{
+    Words {
+        y: v.y as u16,
+        cb: v.cb as u16,
+        cr: v.cr as u16,
+    }
 }
 
 // Y', Cb and Cr by the rows of a matrix.
-fn words_by(x: Matrix, y: System, c: [usize; 3]) -> Words
-    requires { ⌜ NominalCodes (scale y) (triple c) ⌝ }
-    ensures { λ r. ⌜ r ≡ wordsAt x (scale y) (triple c) ⌝ }
+fn unlimited_by(x: Matrix, y: System, c: [usize; 3]) -> Unlimited
+    requires { ⌜ TwelveBitCodes (triple c) ⌝ }
+    ensures { λ r. ⌜ r ≡ encodedAt x (scale y) (triple c) ⌝ }
 {
     let w = x.weights();
     let m = encoding(x);
     let middle = y.middle();
     let t = [c[0] as i64, c[1] as i64, c[2] as i64];
-    Words {
-        y: exact::int_of(dot(m[0], t) as u32, ONE as u32) as u16,
-        cb: colour_difference(dot(m[1], t), w.kb, middle) as u16,
-        cr: colour_difference(dot(m[2], t), w.kr, middle) as u16,
+    Unlimited {
+        y: exact::int_of(dot(m[0], t) as u32, ONE as u32) as i64,
+        cb: colour_difference(dot(m[1], t), w.kb, middle),
+        cr: colour_difference(dot(m[2], t), w.kr, middle),
     }
 }
 

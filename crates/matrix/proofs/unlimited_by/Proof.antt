@@ -18,33 +18,24 @@ use Rattle.systems.specs.declared.Codes.{Codes}
 use Rattle.systems.specs.Systems.{scale, kr, kb}
 use Rattle.systems.proofs.Scales.{scale-range}
 use Rattle.matrix.specs.Inner.{Small, triple, dotted, colourDifference}
-use Rattle.matrix.specs.Triples.{weighted, whole}
+use Rattle.matrix.specs.Triples.{weighted, luma, cbOf, crOf}
 use Rattle.matrix.proofs.EncodingRows.{column, above, rows-give, rows-small, luma-small, above-small, difference-is}
 use Rattle.matrix.proofs.Weights.{row-of, weights-between}
-use Rattle.matrix.proofs.Nominal.{WordsOf, words-of, words-are}
-use Rattle.matrix.proofs.words_by.Statement.{statement}
-use Rattle.matrix.proofs.words_by.Tie as tie
+use Rattle.matrix.proofs.unlimited_by.Statement.{statement}
+use Rattle.matrix.proofs.unlimited_by.Tie as tie
 
 module _ (s : tie.Start) where
   abbrev codes : Codes
   codes = triple (s .args .t3)
 
-  abbrev scaled : scale (s .args .y) ≤ 16
-  scaled = scale-range (s .args .y) .1
-
   abbrev multiplied : List ℤ
   multiplied = toZ w64 (codes .r) ∷ toZ w64 (codes .g) ∷ toZ w64 (codes .b) ∷ []
 
   column-read : multiplied ≡ column codes
-  column-read =
-      let n = s .pre in
-      λ i. toZ-pos w64 (codes .r) (omega (arith, n, scaled)) i ∷ toZ-pos w64 (codes .g) (omega (arith, n, scaled)) i ∷ toZ-pos w64 (codes .b) (omega (arith, n, scaled)) i ∷ []
+  column-read = λ i. toZ-pos w64 (codes .r) (omega (arith, s .pre)) i ∷ toZ-pos w64 (codes .g) (omega (arith, s .pre)) i ∷ toZ-pos w64 (codes .b) (omega (arith, s .pre)) i ∷ []
 
-  luma : weighted (s .args .x) codes ≤ 10000 * 3760
-  luma = luma-small (scale (s .args .y)) codes scaled (s .pre) (s .args .x)
-
-  words : WordsOf (s .args .x) (scale (s .args .y)) codes
-  words = words-of (s .args .x) (scale (s .args .y)) codes (s .pre)
+  weighted-small : weighted (s .args .x) codes ≤ 10000 * 4095
+  weighted-small = luma-small codes (s .pre) (s .args .x)
 
 -- ---- what the rows come to
 small : (c : tie.After-encoding) →
@@ -53,7 +44,7 @@ small : (c : tie.After-encoding) →
     Small (getD rows 0 []) t × Small (getD rows 1 []) t × Small (getD rows 2 []) t
 small c =
     let s = c .before .before in
-    rw (c .encoding .ensures, column-read s) (rows-small (scale (s .args .y)) (codes s) (scaled s) (s .pre) (s .args .x))
+    rw (c .encoding .ensures, column-read s) (rows-small (codes s) (s .pre) (s .args .x))
 
 dots : (c : tie.After-encoding) →
     let s = c .before .before in
@@ -84,10 +75,15 @@ weights-read c = elim (row-of (c .before .args .x) (c .weights .result) (c .weig
   | inr e ↦ rw (e .0, e .1) (refl, refl)
 ]
 
-luma-is : (s : tie.Start) → INT (weighted (s .args .x) (codes s)) 10000 ≡ words s .y .value
-luma-is s = ap whole (sym (rounded-whole (weighted (s .args .x) (codes s)) 10000) ∙ words s .y .is)
+luma-word-read : (c : tie.After-int-of) → let s = c .before .before .before .before .before .before in toZ w64 (c .int-of .result) ≡ rounded (luma (s .args .x) (codes s))
+unfolding INT
+luma-word-read c =
+    let s = c .before .before .before .before .before .before in
+    let w = weighted (s .args .x) (codes s) in
+    let is : c .int-of .result ≡ INT w 10000 = c .int-of .ensures ∙ ap (λ (z : ℤ). INT (natAbs z) 10000) (luma-read (c .before)) in
+    ap (toZ w64) is ∙ toZ-pos w64 (INT w 10000) (omega (arith, weighted-small s)) ∙ sym (rounded-whole w 10000)
 
-cb-read : (c : tie.After-colour-difference) → let s = c .before .before .before .before .before .before .before .before .before .before in toZ w64 (ofZ w64 (c .colour-difference .result)) ≡ pos (words s .cb .value)
+cb-read : (c : tie.After-colour-difference) → let s = c .before .before .before .before .before .before .before .before .before .before in toZ w64 (ofZ w64 (c .colour-difference .result)) ≡ rounded (cbOf (s .args .x) (scale (s .args .y)) (codes s))
 cb-read c =
     let d = c .before .before in
     let m = d .before .before .before .before .before in
@@ -95,9 +91,9 @@ cb-read c =
     let s = w .before in
     toZ-ofZ w64 (c .colour-difference .result) (sfits-of (c .colour-difference .ok)) ∙ c .colour-difference .ensures
     ∙ (λ i. rounded (colourDifference (blue-read d i) (natAbs (weights-read w .0 i)) (m .middle .ensures i)))
-    ∙ difference-is (s .args .x) (codes s) (128 * scale (s .args .y)) (kb (s .args .x)) (codes s .b) ∙ words s .cb .is
+    ∙ difference-is (s .args .x) (codes s) (128 * scale (s .args .y)) (kb (s .args .x)) (codes s .b)
 
-cr-read : (c : tie.After-colour-difference2) → let s = c .before .before .before .before .before .before .before .before .before .before .before .before .before .before in toZ w64 (ofZ w64 (c .colour-difference2 .result)) ≡ pos (words s .cr .value)
+cr-read : (c : tie.After-colour-difference2) → let s = c .before .before .before .before .before .before .before .before .before .before .before .before .before .before in toZ w64 (ofZ w64 (c .colour-difference2 .result)) ≡ rounded (crOf (s .args .x) (scale (s .args .y)) (codes s))
 cr-read c =
     let d = c .before .before in
     let m = d .before .before .before .before .before .before .before .before .before in
@@ -105,7 +101,7 @@ cr-read c =
     let s = w .before in
     toZ-ofZ w64 (c .colour-difference2 .result) (sfits-of (c .colour-difference2 .ok)) ∙ c .colour-difference2 .ensures
     ∙ (λ i. rounded (colourDifference (red-read d i) (natAbs (weights-read w .1 i)) (m .middle .ensures i)))
-    ∙ difference-is (s .args .x) (codes s) (128 * scale (s .args .y)) (kr (s .args .x)) (codes s .r) ∙ words s .cr .is
+    ∙ difference-is (s .args .x) (codes s) (128 * scale (s .args .y)) (kr (s .args .x)) (codes s .r)
 
 weights-requires : tie.Need-weights-requires
 weights-requires c κs = search needs
@@ -122,11 +118,11 @@ array-read-int-of c = search needs
 cast-int-of : tie.Need-cast-int-of
 cast-int-of c = search needs
 
-array-read-colour-difference : tie.Need-array-read-colour-difference
-array-read-colour-difference c = search needs
+array-read-t16 : tie.Need-array-read-t16
+array-read-t16 c = search needs
 
-cast-colour-difference : tie.Need-cast-colour-difference
-cast-colour-difference c = search needs
+cast-t17 : tie.Need-cast-t17
+cast-t17 c = search needs
 
 array-read-t20 : tie.Need-array-read-t20
 array-read-t20 c = search needs
@@ -141,17 +137,16 @@ dot-requires : tie.Need-dot-requires
 dot-requires c κs = small (c .before .before) .0
 
 cast-int-of-2 : tie.Need-cast-int-of-2
-cast-int-of-2 c = rw (luma-read c) (tt, record { fits = omega (arith, luma (c .before .before .before .before .before)) })
+cast-int-of-2 c = rw (luma-read c) (tt, record { fits = omega (arith, weighted-small (c .before .before .before .before .before)) })
 
 cast-int-of-3 : tie.Need-cast-int-of-3
 cast-int-of-3 c = search needs
 
 int-of-requires : tie.Need-int-of-requires
-int-of-requires c κs = rw (luma-read c) (lit< tt, refl, omega (arith, luma (c .before .before .before .before .before)))
+int-of-requires c κs = rw (luma-read c) (lit< tt, refl, omega (arith, weighted-small (c .before .before .before .before .before)))
 
-cast-t28 : tie.Need-cast-t28
-unfolding INT
-cast-t28 c = rw (c .int-of .ensures, luma-read (c .before)) record { fits = omega (arith, luma (c .before .before .before .before .before .before)) }
+cast-t21-2 : tie.Need-cast-t21-2
+cast-t21-2 c = search needs
 
 array-copy-out-dot-2 : tie.Need-array-copy-out-dot-2
 array-copy-out-dot-2 c = search needs
@@ -167,10 +162,7 @@ colour-difference-requires c κs =
     let s = w .before in
     let k = weights-between (s .args .x) in
     rw (weights-read w .0, blue-read d, m .middle .ensures)
-    (is-positive _ (omega (arith, k .0 .0)), k .0 .0, k .0 .1, omega (arith, scaled s), above-small (scale (s .args .y)) (codes s) (scaled s) (s .pre) (s .args .x) (codes s .b) (s .pre .b-high))
-
-cast-t32 : tie.Need-cast-t32
-cast-t32 c = let s = c .before .before .before .before .before .before .before .before .before .before in rw (cb-read c) (tt, record { fits = omega (arith, words s .cb .at-most, scaled s) })
+    (is-positive _ (omega (arith, k .0 .0)), k .0 .0, k .0 .1, omega (arith, scale-range (s .args .y)), above-small (codes s) (s .pre) (s .args .x) (codes s .b) (s .pre .b-high))
 
 array-copy-out-dot-3 : tie.Need-array-copy-out-dot-3
 array-copy-out-dot-3 c = search needs
@@ -186,21 +178,17 @@ colour-difference-requires-2 c κs =
     let s = w .before in
     let k = weights-between (s .args .x) in
     rw (weights-read w .1, red-read d, m .middle .ensures)
-    (is-positive _ (omega (arith, k .1 .0)), k .1 .0, k .1 .1, omega (arith, scaled s), above-small (scale (s .args .y)) (codes s) (scaled s) (s .pre) (s .args .x) (codes s .r) (s .pre .r-high))
-
-cast-t38 : tie.Need-cast-t38
-cast-t38 c = let s = c .before .before .before .before .before .before .before .before .before .before .before .before .before .before in rw (cr-read c) (tt, record { fits = omega (arith, words s .cr .at-most, scaled s) })
+    (is-positive _ (omega (arith, k .1 .0)), k .1 .0, k .1 .1, omega (arith, scale-range (s .args .y)), above-small (codes s) (s .pre) (s .args .x) (codes s .r) (s .pre .r-high))
 
 returns : tie.Need-returns
 returns c =
     let b = c .before .before .before .before in
     let y = b .before .before .before .before in
     let s = y .before .before .before .before .before .before in
-    rw (y .int-of .ensures, luma-read (y .before), cb-read b, cr-read c)
-    ((λ i. record { y = luma-is s i; cb = words s .cb .value; cr = words s .cr .value }) ∙ sym (words-are (s .args .x) (scale (s .args .y)) (codes s) (words s)))
+    rw (luma-word-read y, cb-read b, cr-read c)
 
-pub words-by-spec : {M : Type 1} → statement M
-words-by-spec =
+pub unlimited-by-spec : {M : Type 1} → statement M
+unlimited-by-spec =
     tie.close
     (tie.spec
     weights-requires
@@ -208,8 +196,8 @@ words-by-spec =
     middle-requires
     array-read-int-of
     cast-int-of
-    array-read-colour-difference
-    cast-colour-difference
+    array-read-t16
+    cast-t17
     array-read-t20
     cast-t21
     array-copy-out-dot
@@ -217,13 +205,11 @@ words-by-spec =
     cast-int-of-2
     cast-int-of-3
     int-of-requires
-    cast-t28
+    cast-t21-2
     array-copy-out-dot-2
     dot-requires-2
     colour-difference-requires
-    cast-t32
     array-copy-out-dot-3
     dot-requires-3
     colour-difference-requires-2
-    cast-t38
     returns)

@@ -1,4 +1,9 @@
 // The lists of the file 'calls'.
+ghost use mathlib.Core.Path.{_≡_};
+ghost use mathlib.Core.Bool.{_&&_};
+ghost use lib.Dec.{eqb};
+ghost use Rattle.picture.specs.Picture.{toldPicture};
+ghost use Rattle.calls.specs.Calls.{agrees, rowsOf};
 use crate::call;
 use crate::call::Call;
 use crate::reading;
@@ -66,8 +71,10 @@ fn expect_block(block: &[u8], due: &mut [u8]) {
 }
 
 // Whether the answer and the rows accepted of the picture after it are the book's.
-fn is_met(call: Call, answer: Change, picture: Picture) -> bool {
-    call.has(answer) && rows_of(picture) == call.rows
+fn is_met(call: Call, answer: Change, picture: Picture) -> bool
+    ensures { λ r. ⌜ r ≡ (agrees (toldPicture answer) call && eqb (rowsOf (picture .phase)) (call .rows)) ⌝ }
+{
+    call.has(answer) & (rows_of(picture) == call.rows)
 }
 
 // Whether as many bytes as there is room are the same.
@@ -79,7 +86,9 @@ fn begin_alike(lent: &[u8], due: &[u8], room: usize) -> bool {
     }
 }
 
-fn rows_of(picture: Picture) -> u16 {
+fn rows_of(picture: Picture) -> u16
+    ensures { λ r. ⌜ r ≡ rowsOf (picture .phase) ⌝ }
+{
     match picture.phase() {
         Phase::Fresh => 0,
         Phase::Open(o) => o.rows,

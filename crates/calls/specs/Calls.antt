@@ -1,6 +1,6 @@
 -- The calls of the lists that reference/make_calls.py makes, what each is given, and whether its answer is the row book's.
 -- Definitions only.
-use Prim.Native.Nat.{ℕ, zero, suc, _+_, _*_, _/_, _≤_, min}
+use Prim.Native.Nat.{ℕ, zero, suc, _+_, _*_, _-_, _/_, _<_}
 use mathlib.Core.Path.{_≡_}
 use mathlib.Core.Bool.{Bool, true, false, _&&_, cond}
 use mathlib.Core.List.{List, [], _∷_, _++_}
@@ -14,7 +14,8 @@ use Rattle.picture.specs.declared.Phase.{Phase}
 use Rattle.picture.specs.declared.Phase.the-variants.{Fresh, Open, Closed}
 use Rattle.picture.specs.declared.Picture.{Picture}
 use Rattle.picture.specs.Picture.{at, opening, rowing, bufferAfter, closing}
-use Rattle.records.specs.Records.{u16At, u32At}
+use Rattle.records.specs.declared.tally.Tally.{Tally}
+use Rattle.records.specs.Records.{u16At, u32At, ended}
 use Rattle.calls.specs.declared.call.Call.{Call}
 
 -- the numbers of the call at a place
@@ -109,3 +110,24 @@ readMet c lent due =
     cond (eqb (blockLength c) 0) true
     (cond (leb (blockLength c) (length lent))
     (cond (leb (3 * c .samples) 23040) (readInto c (take (blockLength c) lent) (take (3 * c .samples) (replicate 23040 0)) due) false) false)
+
+-- the bytes of a call: its numbers, the block that is due, and the codes that are due
+abbrev pub sizeOf : Call → ℕ
+sizeOf c = 26 + blockLength c + 12 * c .samples
+
+-- the place of call n, and whether a whole call stands at a place
+unfoldable pub place : List ℕ → ℕ → ℕ
+place bs zero = 0
+place bs (suc n) = place bs n + sizeOf (callAt bs (place bs n))
+
+abbrev pub wholeAt : List ℕ → ℕ → Bool
+wholeAt bs at = leb (at + 26) (length bs) && leb (at + sizeOf (callAt bs at)) (length bs)
+
+-- the calls are taken one behind the other, up to the first that is not there whole; bytes that are left are a call that is cut off, and it
+-- differs
+pub record Played (bs : List ℕ) (t : Tally) : Type 0 where
+  pub count : ℕ
+  pub whole : (i : ℕ) → i < count → wholeAt bs (place bs i) ≡ true
+  pub no-more : wholeAt bs (place bs count) ≡ false
+  pub before : Tally
+  pub tally : t ≡ ended before (length bs - place bs count)

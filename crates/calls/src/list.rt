@@ -3,7 +3,7 @@ ghost use mathlib.Core.Path.{_≡_};
 ghost use mathlib.Core.Bool.{_&&_};
 ghost use lib.Dec.{eqb};
 ghost use Rattle.picture.specs.Picture.{toldPicture};
-ghost use Rattle.calls.specs.Calls.{agrees, rowsOf};
+ghost use Rattle.calls.specs.Calls.{agrees, rowsOf, Played};
 use crate::call;
 use crate::call::Call;
 use crate::reading;
@@ -13,7 +13,9 @@ use picture::Picture;
 use records::Tally;
 
 // Compares the calls of a kind in which this refusal is due, or for 0 those that are accepted. A call that is cut off differs.
-pub fn compare(calls: &[u8], lights: &[u16], kind: u16, refusal: u32) -> Tally {
+pub fn compare(calls: &[u8], lights: &[u16], kind: u16, refusal: u32) -> Tally
+    ensures { λ r. ⌜ Played (now (calls .entry)) r ⌝ }
+{
     let mut lent = [171u8; 46100];
     let mut due = [171u8; 46100];
     played(calls, lights, kind, refusal, &mut lent, &mut due)
@@ -27,7 +29,9 @@ fn played(
     refusal: u32,
     lent: &mut [u8],
     due: &mut [u8],
-) -> Tally {
+) -> Tally
+    ensures { λ r. ⌜ Played (now (calls .entry)) r ⌝ }
+{
     let mut picture = Picture::new();
     let mut tally = Tally::NONE;
     let mut at = 0;
@@ -37,7 +41,7 @@ fn played(
         let codes = block + call.block_length();
         let next = codes + 12 * (call.samples as usize);
         if next > calls.len() {
-            return tally.with(false);
+            return tally.ended(calls.len() - at);
         }
         let answer = call.answer(picture, lights, lent);
         picture = kept(picture, answer);
@@ -48,11 +52,7 @@ fn played(
         }
         at = next;
     }
-    if at < calls.len() {
-        tally.with(false)
-    } else {
-        tally
-    }
+    tally.ended(calls.len() - at)
 }
 
 // The picture after an answer.

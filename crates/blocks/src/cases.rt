@@ -1,6 +1,6 @@
 // The cases of the file 'cases': a block and a lent slice, and what reading the block has to give.
 ghost use mathlib.Core.Path.{_≡_};
-ghost use Prim.Native.Nat.{_+_, _*_, _≤_};
+ghost use Prim.Native.Nat.{_+_, _≤_};
 ghost use lib.ListN.{length};
 ghost use Rattle.block.specs.Read.{toldHeader};
 ghost use Rattle.blocks.specs.Cases.{caseAt, sizeOf, sameHeader, agrees, answered, met, wholeAt, caseTallied, Compared};

@@ -1,11 +1,16 @@
 // The lights of the file 'lights', of which each row is given a part.
-ghost use Prim.Native.Nat.{_≤_};
-ghost use lib.ListN.{length};
+ghost use mathlib.Core.Path.{_≡_};
+ghost use mathlib.Core.List.{_++_};
+ghost use Prim.Native.Nat.{_/_, _≤_, min};
+ghost use lib.ListN.{length, drop};
+ghost use Rattle.calls.specs.Calls.{lightsTo};
 use records::u16_at;
 
 // Puts the lights, each 2 bytes, to the front of a slice, and answers how many there are.
 pub fn decode(bytes: &[u8], lights: &mut [u16]) -> usize
     ensures { λ r. ⌜ r ≤ length (now (lights .exit)) ⌝ }
+    ensures { λ r. ⌜ r ≡ min (length (now (lights .entry))) (length (now (bytes .entry)) / 2) ⌝ }
+    ensures { λ r. ⌜ now (lights .exit) ≡ lightsTo (now (bytes .entry)) r ++ drop r (now (lights .entry)) ⌝ }
 {
     let mut i = 0;
     while i < lights.len() {

@@ -1,4 +1,9 @@
 // The lists of the file 'calls'.
+ghost use mathlib.Core.Path.{_≡_};
+ghost use mathlib.Core.Bool.{_&&_};
+ghost use lib.Dec.{eqb};
+ghost use Rattle.picture.specs.Picture.{toldPicture};
+ghost use Rattle.calls.specs.Calls.{agrees, rowsOf, Played};
 use crate::call;
 use crate::call::Call;
 use crate::reading;
@@ -8,7 +13,9 @@ use picture::Picture;
 use records::Tally;
 
 // Compares the calls of a kind in which this refusal is due, or for 0 those that are accepted. A call that is cut off differs.
-pub fn compare(calls: &[u8], lights: &[u16], kind: u16, refusal: u32) -> Tally {
+pub fn compare(calls: &[u8], lights: &[u16], kind: u16, refusal: u32) -> Tally
+    ensures { λ r. ⌜ Played (now (calls .entry)) r ⌝ }
+{
     let mut lent = [171u8; 46100];
     let mut due = [171u8; 46100];
     played(calls, lights, kind, refusal, &mut lent, &mut due)
@@ -22,7 +29,9 @@ fn played(
     refusal: u32,
     lent: &mut [u8],
     due: &mut [u8],
-) -> Tally {
+) -> Tally
+    ensures { λ r. ⌜ Played (now (calls .entry)) r ⌝ }
+{
     let mut picture = Picture::new();
     let mut tally = Tally::NONE;
     let mut at = 0;
@@ -32,7 +41,7 @@ fn played(
         let codes = block + call.block_length();
         let next = codes + 12 * (call.samples as usize);
         if next > calls.len() {
-            return tally.with(false);
+            return tally.ended(calls.len() - at);
         }
         let answer = call.answer(picture, lights, lent);
         picture = kept(picture, answer);
@@ -43,11 +52,7 @@ fn played(
         }
         at = next;
     }
-    if at < calls.len() {
-        tally.with(false)
-    } else {
-        tally
-    }
+    tally.ended(calls.len() - at)
 }
 
 // The picture after an answer.
@@ -66,8 +71,10 @@ fn expect_block(block: &[u8], due: &mut [u8]) {
 }
 
 // Whether the answer and the rows accepted of the picture after it are the book's.
-fn is_met(call: Call, answer: Change, picture: Picture) -> bool {
-    call.has(answer) && rows_of(picture) == call.rows
+fn is_met(call: Call, answer: Change, picture: Picture) -> bool
+    ensures { λ r. ⌜ r ≡ (agrees (toldPicture answer) call && eqb (rowsOf (picture .phase)) (call .rows)) ⌝ }
+{
+    call.has(answer) & (rows_of(picture) == call.rows)
 }
 
 // Whether as many bytes as there is room are the same.
@@ -79,7 +86,9 @@ fn begin_alike(lent: &[u8], due: &[u8], room: usize) -> bool {
     }
 }
 
-fn rows_of(picture: Picture) -> u16 {
+fn rows_of(picture: Picture) -> u16
+    ensures { λ r. ⌜ r ≡ rowsOf (picture .phase) ⌝ }
+{
     match picture.phase() {
         Phase::Fresh => 0,
         Phase::Open(o) => o.rows,

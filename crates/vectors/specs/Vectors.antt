@@ -1,10 +1,9 @@
 -- The records of the files that reference/make_vectors.py makes, and whether the conversion agrees with them. Definitions only.
 use Prim.Native.Nat.{ℕ, zero, suc, _+_, _*_, _-_, _/_, _%_, _^_}
-use mathlib.Core.Bool.{Bool, true, false, _&&_, not, cond}
+use mathlib.Core.Bool.{Bool, false, _&&_, not, cond}
 use mathlib.Core.List.{List}
 use lib.Dec.{eqb, ltb}
 use lib.Ieee.{Float, nan, eq, ofBits, toBits, binary32}
-use lib.ListN.{length}
 use Rattle.exact.specs.Outcome.{Outcome, accepted, refused}
 use Rattle.systems.specs.declared.Codes.{Codes}
 use Rattle.light.specs.declared.Span.{Span}
@@ -12,7 +11,7 @@ use Rattle.light.specs.Light.{codeOfLight, spanOfCode}
 use Rattle.signals.specs.declared.Signals.{Signals}
 use Rattle.signals.specs.Signals.{signalCodes, codeSignals}
 use Rattle.records.specs.declared.tally.Tally.{Tally}
-use Rattle.records.specs.Records.{u16At, u32At, none, tallied, ended, scaleOf}
+use Rattle.records.specs.Records.{u16At, u32At, none, tallied, scaleOf}
 use Rattle.vectors.specs.declared.place.Place.{Place}
 use Rattle.vectors.specs.declared.quantised.Case.{Case}
 use Rattle.vectors.specs.declared.restored.Bits.{Bits}

@@ -1,7 +1,6 @@
 // Lights to codes and codes to spans, against the file 'spans'.
 ghost use mathlib.Core.Path.{_≡_};
 ghost use Prim.Native.Nat.{_+_, _/_, _%_, _≤_};
-ghost use mathlib.Core.Bool.{_&&_};
 ghost use lib.ListN.{length};
 ghost use Rattle.records.specs.Records.{tallyOf, ended};
 ghost use Rattle.vectors.specs.Vectors.{spanIn, isSpan, spanAt, hasCode, spanTallied, after, lightsTo};

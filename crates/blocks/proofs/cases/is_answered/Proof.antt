@@ -1,6 +1,5 @@
 use Rattle.block.proofs.Reading.{slice-keeps-its-length}
 use Rattle.blocks.proofs.Slices.{length-filled}
-use mathlib.Core.Path.{_≡_, sym, ap, _∙_}
 use Rattle.blocks.specs.Cases.{answered}
 use borrow.Author.Needs.{needs}
 use Rattle.blocks.proofs.cases.is_answered.Statement.{statement}

@@ -1,25 +1,30 @@
--- `calls::list::played` is safe and ends. The place stays within the calls and what is left of them falls, as each call has its numbers; both
--- buffers keep their lengths.
--- Assumes nothing.
-use Prim.Native.Nat.{_≤_, _-_}
-use mathlib.Core.Path.{_≡_}
+use Prim.Native.Nat.{_+_, _*_, _-_, _≤_}
+use mathlib.Core.Path.{_≡_, ap}
+use native.Mathlib.Omega.{arith}
 use lib.ListN.{length}
+use denote.Ref.{now}
 use borrow.Author.Needs.{needs}
+use Rattle.calls.specs.Calls.{callAt, sizeOf}
+use Rattle.calls.proofs.Walked.{SoFar, none-yet, is-whole, no-numbers, cut-off, one-more, all-played}
 use Rattle.calls.proofs.list.played.Statement.{statement}
 use Rattle.calls.proofs.list.played.Tie as tie
 
 abbrev Inv-loop : tie.InvT-loop
 Inv-loop calls lights kind refusal lent₀ due₀ picture₀ tally₀ at₀ lent due picture tally at =
-    (at ≤ length calls) × ((length lent ≡ length lent₀) × (length due ≡ length due₀))
+    (at ≤ length calls) × ((length lent ≡ length lent₀) × (length due ≡ length due₀)) × SoFar calls at
 
 abbrev μ-loop : tie.MeasureT-loop
 μ-loop calls lights kind refusal lent₀ due₀ picture₀ tally₀ at₀ lent due picture tally at = length calls - at
+
+-- the place behind a call
+stepped : (c : tie.After-block-length Inv-loop μ-loop) → c .before .before .before .loop .at + 26 + c .block-length .result + 12 * c .before .call-at .result .samples ≡ c .before .before .before .loop .at + sizeOf (callAt (now (c .before .before .before .before .before .before .before .before .before .args .calls)) (c .before .before .before .loop .at))
+stepped c = omega (arith, c .block-length .ensures .0, ap sizeOf (c .before .call-at .ensures))
 
 new-requires : tie.Need-new-requires Inv-loop μ-loop
 new-requires c κs = search needs
 
 loop-holds : tie.Need-loop-holds Inv-loop μ-loop
-loop-holds c = search needs
+loop-holds c = (search needs, search needs, none-yet _)
 
 sub-loop : tie.Need-sub-loop Inv-loop μ-loop
 sub-loop c = search needs
@@ -45,8 +50,11 @@ mul-next c = search needs
 add-next : tie.Need-add-next Inv-loop μ-loop
 add-next c = search needs
 
-with-requires : tie.Need-with-requires Inv-loop μ-loop
-with-requires c κs = search needs
+sub-ended : tie.Need-sub-ended Inv-loop μ-loop
+sub-ended c = search needs
+
+ended-requires : tie.Need-ended-requires Inv-loop μ-loop
+ended-requires c κs = search needs
 
 same-length : tie.Need-same-length Inv-loop μ-loop
 same-length c = search needs
@@ -55,7 +63,7 @@ same-length-2 : tie.Need-same-length-2 Inv-loop μ-loop
 same-length-2 c = search needs
 
 returns : tie.Need-returns Inv-loop μ-loop
-returns c = search needs
+returns c = all-played (c .before .before .before .before .before .loop .inv .2) _ (cut-off (now (c .before .before .before .before .before .before .before .before .before .before .before .args .calls)) (c .before .before .before .before .before .loop .at) (omega (arith, c .before .before .before .before .loop-test .taken)) (omega (arith, stepped (c .before .before), c .before .if1 .taken))) (c .ended .ensures)
 
 answer-requires : tie.Need-answer-requires Inv-loop μ-loop
 answer-requires c κs = search needs
@@ -99,23 +107,32 @@ part-is-met-end c = search needs
 is-met-requires-2 : tie.Need-is-met-requires-2 Inv-loop μ-loop
 is-met-requires-2 c κs = search needs
 
-with-requires-2 : tie.Need-with-requires-2 Inv-loop μ-loop
-with-requires-2 c κs = search needs
+with-requires : tie.Need-with-requires Inv-loop μ-loop
+with-requires c κs = search needs
 
 loop-less : tie.Need-loop-less Inv-loop μ-loop
 loop-less c = search needs
 
 loop-again : tie.Need-loop-again Inv-loop μ-loop
-loop-again c = search needs
+loop-again c =
+    let here = stepped (c .before .before .before .before .before .before .before .before .before .before .before .before .before .before .before .before .before) in
+    let whole = is-whole (now (c .before .before .before .before .before .before .before .before .before .before .before .before .before .before .before .before .before .before .before .before .before .before .before .before .before .before .args .calls)) (c .before .before .before .before .before .before .before .before .before .before .before .before .before .before .before .before .before .before .before .before .loop .at) (omega (arith, c .before .before .before .before .before .before .before .before .before .before .before .before .before .before .before .before .before .before .before .loop-test .taken)) (omega (arith, here, c .before .before .before .before .before .before .before .before .before .before .before .before .before .before .before .before .if1 .left)) in
+    (omega (arith, c .before .before .before .before .before .before .before .before .before .before .before .before .before .before .before .before .if1 .left), search needs, one-more (c .before .before .before .before .before .before .before .before .before .before .before .before .before .before .before .before .before .before .before .before .loop .inv .2) _ whole here)
 
 loop-less-2 : tie.Need-loop-less-2 Inv-loop μ-loop
 loop-less-2 c = search needs
 
 loop-again-2 : tie.Need-loop-again-2 Inv-loop μ-loop
-loop-again-2 c = search needs
+loop-again-2 c =
+    let here = stepped (c .before .before .before .before .before .before .before .before .before .before .before .before .before) in
+    let whole = is-whole (now (c .before .before .before .before .before .before .before .before .before .before .before .before .before .before .before .before .before .before .before .before .before .before .args .calls)) (c .before .before .before .before .before .before .before .before .before .before .before .before .before .before .before .before .loop .at) (omega (arith, c .before .before .before .before .before .before .before .before .before .before .before .before .before .before .before .loop-test .taken)) (omega (arith, here, c .before .before .before .before .before .before .before .before .before .before .before .before .if1 .left)) in
+    (omega (arith, c .before .before .before .before .before .before .before .before .before .before .before .before .if1 .left), search needs, one-more (c .before .before .before .before .before .before .before .before .before .before .before .before .before .before .before .before .loop .inv .2) _ whole here)
 
-with-requires-3 : tie.Need-with-requires-3 Inv-loop μ-loop
-with-requires-3 c κs = search needs
+sub-ended-2 : tie.Need-sub-ended-2 Inv-loop μ-loop
+sub-ended-2 c = search needs
+
+ended-requires-2 : tie.Need-ended-requires-2 Inv-loop μ-loop
+ended-requires-2 c κs = search needs
 
 same-length-3 : tie.Need-same-length-3 Inv-loop μ-loop
 same-length-3 c = search needs
@@ -124,16 +141,7 @@ same-length-4 : tie.Need-same-length-4 Inv-loop μ-loop
 same-length-4 c = search needs
 
 returns-2 : tie.Need-returns-2 Inv-loop μ-loop
-returns-2 c = search needs
-
-same-length-5 : tie.Need-same-length-5 Inv-loop μ-loop
-same-length-5 c = search needs
-
-same-length-6 : tie.Need-same-length-6 Inv-loop μ-loop
-same-length-6 c = search needs
-
-returns-3 : tie.Need-returns-3 Inv-loop μ-loop
-returns-3 c = search needs
+returns-2 c = all-played (c .before .before .loop .inv .2) _ (no-numbers (now (c .before .before .before .before .before .before .before .before .args .calls)) (c .before .before .loop .at) (omega (arith, c .before .loop-test .left))) (c .ended2 .ensures)
 
 pub played-spec : {M : Type 1} → statement M
 played-spec =
@@ -151,7 +159,8 @@ played-spec =
     cast-next
     mul-next
     add-next
-    with-requires
+    sub-ended
+    ended-requires
     same-length
     same-length-2
     returns
@@ -169,15 +178,13 @@ played-spec =
     part-is-met-start
     part-is-met-end
     is-met-requires-2
-    with-requires-2
+    with-requires
     loop-less
     loop-again
     loop-less-2
     loop-again-2
-    with-requires-3
+    sub-ended-2
+    ended-requires-2
     same-length-3
     same-length-4
-    returns-2
-    same-length-5
-    same-length-6
-    returns-3)
+    returns-2)

@@ -1,7 +1,11 @@
--- `calls::call::Call::row` is safe. The lights and the buffer that the row is lent are parts of those at hand.
--- Assumes nothing.
-use mathlib.Core.Path.{sym}
+use Prim.Native.Nat.{_+_, _-_}
+use mathlib.Core.Path.{_≡_, sym}
+use native.Mathlib.Omega.{arith}
+use lib.ListN.{length, take}
 use lib.Seq.{length-take-le}
+use denote.Ref.{now}
+use borrow.Author.Tests.{le-leb, lt-leb}
+use Rattle.calls.specs.Calls.{room}
 use borrow.Author.Needs.{needs}
 use Rattle.calls.proofs.call.Call.row.Statement.{statement}
 use Rattle.calls.proofs.call.Call.row.Tie as tie
@@ -17,6 +21,19 @@ add-end c = search needs
 
 room-requires : tie.Need-room-requires
 room-requires c κs = search needs
+
+returns : tie.Need-returns
+returns c =
+    let s = c .before .before .before .before .before .before .args in
+    let lights = lt-leb (s .self .first + s .self .second) (length (now (s .lights))) (omega arith) in
+    (simp lights, simp lights)
+
+returns-2 : tie.Need-returns-2
+returns-2 c =
+    let s = c .before .before .before .before .before .before .before .args in
+    let lights = le-leb (s .self .first + s .self .second) (length (now (s .lights))) (omega arith) in
+    let lent = lt-leb (room (s .self)) (length (now (s .lent))) (rw (c .before .before .room .ensures) at (c .if2 .taken)) in
+    (simp (lights, lent), simp (lights, lent))
 
 mul-row : tie.Need-mul-row
 mul-row c = search needs
@@ -34,7 +51,7 @@ slice-relend-prefix-row : tie.Need-slice-relend-prefix-row
 slice-relend-prefix-row c = search needs
 
 slice-aggregate-row : tie.Need-slice-aggregate-row
-slice-aggregate-row c = sym (length-take-le _ _ (search needs))
+slice-aggregate-row c = sym (length-take-le _ _ (omega arith))
 
 row-requires : tie.Need-row-requires
 row-requires c κs = search needs
@@ -42,11 +59,16 @@ row-requires c κs = search needs
 same-length : tie.Need-same-length
 same-length c = search needs
 
-returns : tie.Need-returns
-returns c = search needs
-
-returns-2 : tie.Need-returns-2
-returns-2 c = search needs
+returns-3 : tie.Need-returns-3
+returns-3 c =
+    let s = c .before .before .before .before .before .before .before .before .before .before .before .before .args in
+    let r = c .before .before .before .before .before .before .before .room .result in
+    let lights = le-leb (s .self .first + s .self .second) (length (now (s .lights))) (omega arith) in
+    let lent = le-leb (room (s .self)) (length (now (s .lent))) (rw (c .before .before .before .before .before .before .before .room .ensures) at (c .before .before .before .before .before .if2 .left)) in
+    let part : (s .self .first + s .self .second) - s .self .first ≡ s .self .second = omega arith in
+    let long : length (take r (now (s .lent))) ≡ r = length-take-le r (now (s .lent)) (omega arith) in
+    let answer = c .before .before .row .ensures in
+    (simp (lights, lent) (rw (part, long, c .before .before .before .before .before .before .before .room .ensures) at (answer .0)), simp (lights, lent) (rw (answer .1, part, c .before .before .before .before .before .before .before .room .ensures)))
 
 pub row-spec : {M : Type 1} → statement M
 row-spec =
@@ -56,6 +78,8 @@ row-spec =
     cast-end
     add-end
     room-requires
+    returns
+    returns-2
     mul-row
     sub-row
     part-row-start
@@ -64,5 +88,4 @@ row-spec =
     slice-aggregate-row
     row-requires
     same-length
-    returns
-    returns-2)
+    returns-3)

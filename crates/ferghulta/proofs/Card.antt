@@ -1,4 +1,4 @@
--- The card at the door. What a call does is what the exported function's own contract says (its generated `Post`), so nothing is restated here.
+-- The card of the C interface. What a call does is what the exported function's own contract says (its generated `Post`), so nothing is restated here.
 -- Definitions only.
 use Prim.Native.Nat.{ℕ}
 use mathlib.Core.Bool.{Bool, true, false}
@@ -11,7 +11,7 @@ use Rattle.exact.specs.Outcome as outcome
 use Rattle.picture.specs.Book.{Heard, accepted, refused}
 use Rattle.picture.proofs.Calls.{Label, Card}
 use Rattle.ferghulta.specs.declared.calls.BlockAnswer.{BlockAnswer}
-use Rattle.ferghulta.specs.declared.picture_kept.KeptPicture.{KeptPicture}
+use Rattle.ferghulta.specs.declared.stored_picture.StoredPicture.{StoredPicture}
 use Rattle.ferghulta.specs.declared.picture_calls.PictureAnswer.{PictureAnswer}
 use Rattle.ferghulta.proofs.picture_calls.ferghulta_new.Reads as new-call
 use Rattle.ferghulta.proofs.picture_calls.ferghulta_open.Reads as open-call
@@ -36,20 +36,20 @@ abbrev pub labelBy : BlockAnswer → Outcome Label
 labelBy a = labelIf (eqb (a .refusal) 0) a
 
 -- the next call is given the picture that the answer has
-pub data Opens (k : KeptPicture) (n w h : ℕ) : Heard → KeptPicture → Type 0 where
-  by-open : (a : PictureAnswer) (k′ : KeptPicture) (n′ w′ h′ : ℕ) → open-call.Post tt (k, (n, (w, (h, tt)))) a (k′, (n′, (w′, (h′, tt)))) → Opens k n w h (heardBy a) (a .picture)
+pub data Opens (k : StoredPicture) (n w h : ℕ) : Heard → StoredPicture → Type 0 where
+  by-open : (a : PictureAnswer) (k′ : StoredPicture) (n′ w′ h′ : ℕ) → open-call.Post tt (k, (n, (w, (h, tt)))) a (k′, (n′, (w′, (h′, tt)))) → Opens k n w h (heardBy a) (a .picture)
 
 -- κs are the lifetimes of the two references, whatever they are
-pub data Rows (k : KeptPicture) : List ℕ → List ℕ → Heard → List ℕ → KeptPicture → Type 0 where
-  by-row : (κs : Lfts 2) (lights out lights′ out′ : RefT (List ℕ)) (a : PictureAnswer) (k′ : KeptPicture) → row-call.Post κs (k, (lights, (out, tt))) a (k′, (lights′, (out′, tt)))
+pub data Rows (k : StoredPicture) : List ℕ → List ℕ → Heard → List ℕ → StoredPicture → Type 0 where
+  by-row : (κs : Lfts 2) (lights out lights′ out′ : RefT (List ℕ)) (a : PictureAnswer) (k′ : StoredPicture) → row-call.Post κs (k, (lights, (out, tt))) a (k′, (lights′, (out′, tt)))
       → Rows k (now lights) (now out) (heardBy a) (now out′) (a .picture)
 
-pub data Closes (k : KeptPicture) : Heard → KeptPicture → Type 0 where
-  by-close : (a : PictureAnswer) (k′ : KeptPicture) → close-call.Post tt (k, tt) a (k′, tt) → Closes k (heardBy a) (a .picture)
+pub data Closes (k : StoredPicture) : Heard → StoredPicture → Type 0 where
+  by-close : (a : PictureAnswer) (k′ : StoredPicture) → close-call.Post tt (k, tt) a (k′, tt) → Closes k (heardBy a) (a .picture)
 
 pub data Reads : List ℕ → List ℕ → Outcome Label → List ℕ → Type 0 where
   by-read-block : (κs : Lfts 2) (bytes slice bytes′ slice′ : RefT (List ℕ)) (a : BlockAnswer) → read-call.Post κs (bytes, (slice, tt)) a (bytes′, (slice′, tt))
       → Reads (now bytes) (now slice) (labelBy a) (now slice′)
 
 abbrev pub card : Card
-card = record { Picture = KeptPicture; New = λ k. new-call.Post tt tt k tt; Open = Opens; Row = Rows; Close = Closes; Read = Reads }
+card = record { Picture = StoredPicture; New = λ k. new-call.Post tt tt k tt; Open = Opens; Row = Rows; Close = Closes; Read = Reads }

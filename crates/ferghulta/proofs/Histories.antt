@@ -7,12 +7,12 @@ use Rattle.picture.specs.declared.Phase.the-variants.{Fresh}
 use Rattle.picture.specs.Picture.{at, opening, rowing, bufferAfter, closing}
 use Rattle.picture.proofs.Histories.{Answering, lend, lifetimes}
 use Rattle.ferghulta.specs.Answers.{blockAnswer}
-use Rattle.ferghulta.specs.Kept.{kept, pictureOf, pictureAnswer}
+use Rattle.ferghulta.specs.Stored.{stored, pictureOf, pictureAnswer}
 use Rattle.ferghulta.proofs.Card.{by-open, by-row, by-close, by-read-block, card}
 
 pub answering : Answering card
 answering = record {
-  news = (kept (at Fresh), refl);
+  news = (stored (at Fresh), refl);
   opens = λ k n w h. (_, _, by-open (pictureAnswer k (opening (pictureOf k) n w h)) k n w h refl);
   rows = λ k lights out.
       let a = pictureAnswer k (rowing (pictureOf k) lights (length out)) in

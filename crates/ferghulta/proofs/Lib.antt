@@ -1,5 +1,5 @@
 pub mod Card
-pub mod Kept
-pub mod Door
+pub mod Stored
+pub mod Exported
 pub mod Histories
 pub mod Whole

@@ -6,7 +6,7 @@ use Rattle.picture.specs.Book.{Call, Heard, fresh}
 use Rattle.picture.proofs.Calls.{Lent, Ran, History}
 use Rattle.picture.proofs.Claims.{Demanded}
 use Rattle.picture.proofs.Histories.{Lends, Happens, Answering, every-list-happens}
-use Rattle.ferghulta.specs.declared.picture_kept.KeptPicture.{KeptPicture}
+use Rattle.ferghulta.specs.declared.stored_picture.StoredPicture.{StoredPicture}
 use Rattle.ferghulta.proofs.picture_calls.ferghulta_new.Statement as new-statement
 use Rattle.ferghulta.proofs.picture_calls.ferghulta_new.Met as new-met
 use Rattle.ferghulta.proofs.picture_calls.ferghulta_open.Statement as open-statement
@@ -18,7 +18,7 @@ use Rattle.ferghulta.proofs.picture_calls.ferghulta_close.Met as close-
 use Rattle.ferghulta.proofs.calls.ferghulta_read_block.Statement as read-statement
 use Rattle.ferghulta.proofs.calls.ferghulta_read_block.Met as read-met
 use Rattle.ferghulta.proofs.Card.{card}
-use Rattle.ferghulta.proofs.Door.{stateAt, demand-3, from-any}
+use Rattle.ferghulta.proofs.Exported.{stateAt, demand-3, from-any}
 use Rattle.ferghulta.proofs.Histories.{answering}
 
 -- each `Post` of the card is that of a contract which the routine meets
@@ -29,8 +29,8 @@ pub record Whole : Type 3 where
   pub closes : {M : Type 1} → close-statement.statement M
   pub reads : {M : Type 1} → read-statement.statement M
   -- demand 3, from a new picture and from any eight bytes
-  pub lists : {cs : List Call} {hs : List Heard} {ls : List Lent} {l : KeptPicture} → History card cs hs ls l → Demanded card fresh cs hs ls (stateAt l)
-  pub any : {k l : KeptPicture} {cs : List Call} {hs : List Heard} {ls : List Lent} → Ran card k cs hs ls l → Demanded card (stateAt k) cs hs ls (stateAt l)
+  pub lists : {cs : List Call} {hs : List Heard} {ls : List Lent} {l : StoredPicture} → History card cs hs ls l → Demanded card fresh cs hs ls (stateAt l)
+  pub any : {k l : StoredPicture} {cs : List Call} {hs : List Heard} {ls : List Lent} → Ran card k cs hs ls l → Demanded card (stateAt k) cs hs ls (stateAt l)
   -- it speaks of every list of calls, whatever the lent buffers hold, and of every reading
   pub happens : {cs : List Call} {bs : List (List ℕ)} → Lends cs bs → Happens card cs bs
   pub answers : Answering card

@@ -1,4 +1,4 @@
--- The door's answers as numbers: the values with refusal 0, or the refusal's number and nothing else but zeros.
+-- The answers of the C interface as numbers: the values with refusal 0, or the refusal's number and nothing else but zeros.
 -- Definitions only.
 use Prim.Native.Nat.{ℕ}
 use mathlib.Core.Bool.{false}

@@ -1,4 +1,4 @@
-// The door for C and Rust: every call of the core with numbers, slices and plain structs, as include/ferghulta.h declares them.
+// The interface for C and Rust: every call of the core with numbers, slices and plain structs, as include/ferghulta.h declares them.
 mod calls;
 mod picture_calls;
-mod picture_kept;
+mod stored_picture;

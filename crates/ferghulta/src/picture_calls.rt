@@ -3,29 +3,29 @@ ghost use mathlib.Core.Path.{_≡_};
 ghost use lib.ListN.{length};
 ghost use Rattle.picture.specs.declared.Phase.the-variants.{Fresh};
 ghost use Rattle.picture.specs.Picture.{at, opening, rowing, bufferAfter, closing, toldPicture};
-ghost use Rattle.ferghulta.specs.Kept.{kept, pictureOf, pictureAnswer};
-use crate::picture_kept::KeptPicture;
-use crate::picture_kept::kept;
-use crate::picture_kept::picture_of;
+ghost use Rattle.ferghulta.specs.Stored.{stored, pictureOf, pictureAnswer};
+use crate::stored_picture::StoredPicture;
+use crate::stored_picture::picture_of;
+use crate::stored_picture::stored;
 use picture::Change;
 use picture::Picture;
 
 #[repr(C)]
 pub struct PictureAnswer {
     pub refusal: u32,
-    pub picture: KeptPicture,
+    pub picture: StoredPicture,
 }
 
 #[no_mangle]
-pub extern "C" fn ferghulta_new() -> KeptPicture
-    ensures { λ r. ⌜ r ≡ kept (at Fresh) ⌝ }
+pub extern "C" fn ferghulta_new() -> StoredPicture
+    ensures { λ r. ⌜ r ≡ stored (at Fresh) ⌝ }
 {
-    kept(Picture::new())
+    stored(Picture::new())
 }
 
 #[no_mangle]
 pub extern "C" fn ferghulta_open(
-    picture: KeptPicture,
+    picture: StoredPicture,
     system: u32,
     width: u32,
     height: u32,
@@ -38,7 +38,7 @@ pub extern "C" fn ferghulta_open(
 
 #[no_mangle]
 pub extern "C" fn ferghulta_row(
-    picture: KeptPicture,
+    picture: StoredPicture,
     lights: &[u16],
     out: &mut [u8],
 ) -> PictureAnswer
@@ -50,20 +50,20 @@ pub extern "C" fn ferghulta_row(
 }
 
 #[no_mangle]
-pub extern "C" fn ferghulta_close(picture: KeptPicture) -> PictureAnswer
+pub extern "C" fn ferghulta_close(picture: StoredPicture) -> PictureAnswer
     ensures { λ r. ⌜ r ≡ pictureAnswer picture (closing (pictureOf picture)) ⌝ }
 {
     let p = picture_of(picture);
     answer(picture, p.close())
 }
 
-fn answer(given: KeptPicture, change: Change) -> PictureAnswer
+fn answer(given: StoredPicture, change: Change) -> PictureAnswer
     ensures { λ r. ⌜ r ≡ pictureAnswer given (toldPicture change) ⌝ }
 {
     match change {
         Change::To(p) => PictureAnswer {
             refusal: 0,
-            picture: kept(p),
+            picture: stored(p),
         },
         Change::Refused(r) => PictureAnswer {
             refusal: r.number(),

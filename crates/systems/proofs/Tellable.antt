@@ -36,7 +36,7 @@ named-in-tellable (y ∷ ys) n = found (eqb n (number y)) (named-in-tellable ys 
 pub named-tellable : (n : ℕ) → Tellable (named n)
 named-tellable n = named-in-tellable (Bt709Bits8 ∷ Bt709Bits10 ∷ Bt2020Bits10 ∷ Bt2020Bits12 ∷ []) n
 
--- no refusal has the number 0, which stands for an accepted call at the door
+-- no refusal has the number 0, which stands for an accepted call in the C interface
 pub never-0 : (r : Refusal) → eqb (numbers.refusal r) 0 ≡ false
 never-0 refusal.System = refl
 never-0 refusal.Width = refl

@@ -5,8 +5,8 @@ use Rattle.ferghulta.proofs.picture_calls.answer.Tie as tie
 enum-known-change : tie.Need-enum-known-change
 enum-known-change c = search needs
 
-kept-requires : tie.Need-kept-requires
-kept-requires c κs = search needs
+stored-requires : tie.Need-stored-requires
+stored-requires c κs = search needs
 
 enum-known-change-2 : tie.Need-enum-known-change-2
 enum-known-change-2 c = search needs
@@ -15,7 +15,7 @@ number-requires : tie.Need-number-requires
 number-requires c κs = search needs
 
 returns : tie.Need-returns
-returns c = simp (c .before .before .change .given .1, c .kept .ensures)
+returns c = simp (c .before .before .change .given .1, c .stored .ensures)
 
 returns-2 : tie.Need-returns-2
 returns-2 c = simp (c .before .before .change2 .given .1, c .number .ensures)
@@ -25,7 +25,7 @@ answer-spec =
     tie.close
     (tie.spec
     enum-known-change
-    kept-requires
+    stored-requires
     enum-known-change-2
     number-requires
     returns

@@ -1,6 +1,6 @@
 use mathlib.Core.Path.{ap, _∙_}
 use Rattle.picture.specs.Picture.{closing}
-use Rattle.ferghulta.specs.Kept.{pictureAnswer}
+use Rattle.ferghulta.specs.Stored.{pictureAnswer}
 use borrow.Author.Needs.{needs}
 use Rattle.ferghulta.proofs.picture_calls.ferghulta_close.Statement.{statement}
 use Rattle.ferghulta.proofs.picture_calls.ferghulta_close.Tie as tie

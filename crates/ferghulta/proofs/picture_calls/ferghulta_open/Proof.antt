@@ -1,7 +1,7 @@
 use mathlib.Core.Path.{ap, _∙_}
 use Rattle.picture.specs.declared.Picture.{Picture}
 use Rattle.picture.specs.Picture.{opening}
-use Rattle.ferghulta.specs.Kept.{pictureAnswer}
+use Rattle.ferghulta.specs.Stored.{pictureAnswer}
 use borrow.Author.Needs.{needs}
 use Rattle.ferghulta.proofs.picture_calls.ferghulta_open.Statement.{statement}
 use Rattle.ferghulta.proofs.picture_calls.ferghulta_open.Tie as tie

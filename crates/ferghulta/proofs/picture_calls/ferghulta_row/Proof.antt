@@ -3,7 +3,7 @@ use lib.ListN.{length}
 use denote.Ref.{now}
 use Rattle.picture.specs.declared.Picture.{Picture}
 use Rattle.picture.specs.Picture.{rowing, bufferAfter}
-use Rattle.ferghulta.specs.Kept.{pictureAnswer}
+use Rattle.ferghulta.specs.Stored.{pictureAnswer}
 use borrow.Author.Needs.{needs}
 use Rattle.ferghulta.proofs.picture_calls.ferghulta_row.Statement.{statement}
 use Rattle.ferghulta.proofs.picture_calls.ferghulta_row.Tie as tie

@@ -1,8 +1,8 @@
 use native.Mathlib.Omega.{arith}
 use borrow.Author.Needs.{needs}
 use Rattle.systems.proofs.Scales.{number-small}
-use Rattle.ferghulta.proofs.picture_kept.kept_open.Statement.{statement}
-use Rattle.ferghulta.proofs.picture_kept.kept_open.Tie as tie
+use Rattle.ferghulta.proofs.stored_picture.stored_open.Statement.{statement}
+use Rattle.ferghulta.proofs.stored_picture.stored_open.Tie as tie
 
 number-requires : tie.Need-number-requires
 number-requires c κs = search needs
@@ -13,5 +13,5 @@ cast-t4 c = omega (arith, c .number .ensures, number-small (c .before .args .o .
 returns : tie.Need-returns
 returns c = rw (c .number .ensures)
 
-pub kept-open-spec : {M : Type 1} → statement M
-kept-open-spec = tie.close (tie.spec number-requires cast-t4 returns)
+pub stored-open-spec : {M : Type 1} → statement M
+stored-open-spec = tie.close (tie.spec number-requires cast-t4 returns)

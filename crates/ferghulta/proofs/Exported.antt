@@ -1,4 +1,4 @@
--- Demand 3 through the door: the exported calls do what the definitions say, of the picture that a kept one is taken for.
+-- Demand 3 through the C interface: the exported calls do what the definitions say, of the picture that a stored one is taken for.
 -- Assumes nothing.
 use Prim.Native.Nat.{ℕ}
 use mathlib.Core.Path.{_≡_, ap, _∙_}
@@ -24,35 +24,35 @@ use Rattle.picture.proofs.Faithful.{Follows, Faithful}
 use Rattle.picture.proofs.Demand.{run, demanded}
 use Rattle.picture.proofs.Tellable.{open-tellable, row-tellable, close-tellable}
 use Rattle.ferghulta.specs.declared.calls.BlockAnswer.{BlockAnswer}
-use Rattle.ferghulta.specs.declared.picture_kept.KeptPicture.{KeptPicture}
+use Rattle.ferghulta.specs.declared.stored_picture.StoredPicture.{StoredPicture}
 use Rattle.ferghulta.specs.declared.picture_calls.PictureAnswer.{PictureAnswer}
 use Rattle.ferghulta.specs.Answers.{blockAnswer}
-use Rattle.ferghulta.specs.Kept.{pictureOf, pictureAnswer}
+use Rattle.ferghulta.specs.Stored.{pictureOf, pictureAnswer}
 use Rattle.ferghulta.proofs.Card.{heardIf, heardBy, labelIf, labelBy, Opens, by-open, Rows, by-row, Closes, by-close, Reads, by-read-block, card}
-use Rattle.ferghulta.proofs.Kept.{kept-returns, taken-proper}
+use Rattle.ferghulta.proofs.Stored.{stored-returns, taken-proper}
 
 -- a call on k whose outcome on its picture is o
-follows : (k : KeptPicture) {o : Outcome Picture} {a : PictureAnswer} → Tellable o → Proper (leads (pictureOf k) o .phase) → a ≡ pictureAnswer k o
+follows : (k : StoredPicture) {o : Outcome Picture} {a : PictureAnswer} → Tellable o → Proper (leads (pictureOf k) o .phase) → a ≡ pictureAnswer k o
     → Follows (pictureOf k) o (heardBy a) (pictureOf (a .picture))
-follows k (values p) g e = record { same = ap heardBy e; next = ap (λ (x : PictureAnswer). pictureOf (x .picture)) e ∙ kept-returns p g }
+follows k (values p) g e = record { same = ap heardBy e; next = ap (λ (x : PictureAnswer). pictureOf (x .picture)) e ∙ stored-returns p g }
 follows k (refusing r) g e = record {
   same = ap heardBy e ∙ ap (λ (b : Bool). heardIf b (refusal r)) (never-0 r);
   next = ap (λ (x : PictureAnswer). pictureOf (x .picture)) e;
 }
 
-opens-so : {k k′ : KeptPicture} {n w h : ℕ} {heard : Heard} → Opens k n w h heard k′ → Follows (pictureOf k) (opening (pictureOf k) n w h) heard (pictureOf k′)
+opens-so : {k k′ : StoredPicture} {n w h : ℕ} {heard : Heard} → Opens k n w h heard k′ → Follows (pictureOf k) (opening (pictureOf k) n w h) heard (pictureOf k′)
 opens-so {k} {n = n} {w = w} {h = h} (by-open a _ _ _ _ post) =
     let f = pictureOf k .phase in
     follows k (open-tellable f n w h) (open-step f n w h .stays (taken-proper k)) post
 
-rows-so : {k k′ : KeptPicture} {lights out out′ : List ℕ} {heard : Heard} → Rows k lights out heard out′ k′
+rows-so : {k k′ : StoredPicture} {lights out out′ : List ℕ} {heard : Heard} → Rows k lights out heard out′ k′
     → Follows (pictureOf k) (rowing (pictureOf k) lights (length out)) heard (pictureOf k′) × (out′ ≡ bufferAfter (pictureOf k) lights out)
 rows-so {k} (by-row _ lights out _ _ a _ post) =
     let f = pictureOf k .phase in
     let room = length (now out) in
     (follows k (row-tellable f (now lights) room) (row-step f (now lights) room .stays (taken-proper k)) (post .0), post .1)
 
-closes-so : {k k′ : KeptPicture} {heard : Heard} → Closes k heard k′ → Follows (pictureOf k) (closing (pictureOf k)) heard (pictureOf k′)
+closes-so : {k k′ : StoredPicture} {heard : Heard} → Closes k heard k′ → Follows (pictureOf k) (closing (pictureOf k)) heard (pictureOf k′)
 closes-so {k} (by-close a _ post) =
     let f = pictureOf k .phase in
     follows k (close-tellable f) (close-step f .stays (taken-proper k)) post
@@ -67,16 +67,16 @@ reads-so (by-read-block _ bytes slice _ _ a post) = (tells (reading-tellable (no
 faithful : Faithful card
 faithful = record { picture = pictureOf; news = λ made. ap pictureOf made; opens = opens-so; rows = rows-so; closes = closes-so; reads = reads-so }
 
--- the book's state at a kept picture
-abbrev pub stateAt : KeptPicture → State
+-- the book's state at a stored picture
+abbrev pub stateAt : StoredPicture → State
 stateAt k = stateOf (pictureOf k .phase)
 
 -- Demand 3, of the exported functions
-pub demand-3 : {cs : List Call} {hs : List Heard} {ls : List Lent} {l : KeptPicture} → History card cs hs ls l → Demanded card fresh cs hs ls (stateAt l)
+pub demand-3 : {cs : List Call} {hs : List Heard} {ls : List Lent} {l : StoredPicture} → History card cs hs ls l → Demanded card fresh cs hs ls (stateAt l)
 unfolding faithful
 demand-3 s = demanded faithful s
 
 -- and whatever eight bytes a caller begins with
-pub from-any : {k l : KeptPicture} {cs : List Call} {hs : List Heard} {ls : List Lent} → Ran card k cs hs ls l → Demanded card (stateAt k) cs hs ls (stateAt l)
+pub from-any : {k l : StoredPicture} {cs : List Call} {hs : List Heard} {ls : List Lent} → Ran card k cs hs ls l → Demanded card (stateAt k) cs hs ls (stateAt l)
 unfolding faithful
 from-any {k} r = run faithful (taken-proper k) r .demanded

@@ -1,7 +1,7 @@
 use borrow.Author.Tests.{ne-eqb}
 use borrow.Author.Needs.{needs}
-use Rattle.ferghulta.proofs.picture_kept.picture_of.Statement.{statement}
-use Rattle.ferghulta.proofs.picture_kept.picture_of.Tie as tie
+use Rattle.ferghulta.proofs.stored_picture.picture_of.Statement.{statement}
+use Rattle.ferghulta.proofs.stored_picture.picture_of.Tie as tie
 
 open-phase-requires : tie.Need-open-phase-requires
 open-phase-requires c κs = search needs

@@ -1,9 +1,9 @@
 use mathlib.Core.Path.{ap, sym, _∙_}
 use Rattle.systems.specs.Systems.{found}
-use Rattle.ferghulta.specs.Kept.{openIn}
+use Rattle.ferghulta.specs.Stored.{openIn}
 use borrow.Author.Needs.{needs}
-use Rattle.ferghulta.proofs.picture_kept.open_phase.Statement.{statement}
-use Rattle.ferghulta.proofs.picture_kept.open_phase.Tie as tie
+use Rattle.ferghulta.proofs.stored_picture.open_phase.Statement.{statement}
+use Rattle.ferghulta.proofs.stored_picture.open_phase.Tie as tie
 
 cast-from-number : tie.Need-cast-from-number
 cast-from-number c = search needs

@@ -1,6 +1,6 @@
-// A picture as its keeper holds it, in eight bytes.
+// A picture as a caller in C stores it, in eight bytes.
 ghost use mathlib.Core.Path.{_≡_};
-ghost use Rattle.ferghulta.specs.Kept.{kept, unopened, keptOpen, openPhase, pictureOf};
+ghost use Rattle.ferghulta.specs.Stored.{stored, unopened, storedOpen, openPhase, pictureOf};
 use picture::Opened;
 use picture::Phase;
 use picture::Picture;
@@ -9,7 +9,7 @@ use systems::System;
 
 // phase: 0 fresh, 1 open, 2 closed. The rest is 0 unless it is open.
 #[repr(C)]
-pub struct KeptPicture {
+pub struct StoredPicture {
     pub phase: u8,
     pub system: u8,
     pub width: u16,
@@ -17,20 +17,20 @@ pub struct KeptPicture {
     pub rows: u16,
 }
 
-pub fn kept(picture: Picture) -> KeptPicture
-    ensures { λ r. ⌜ r ≡ kept picture ⌝ }
+pub fn stored(picture: Picture) -> StoredPicture
+    ensures { λ r. ⌜ r ≡ stored picture ⌝ }
 {
     match picture.phase() {
         Phase::Fresh => unopened(0),
-        Phase::Open(o) => kept_open(o),
+        Phase::Open(o) => stored_open(o),
         Phase::Closed => unopened(2),
     }
 }
 
-fn unopened(phase: u8) -> KeptPicture
+fn unopened(phase: u8) -> StoredPicture
     ensures { λ r. ⌜ r ≡ unopened phase ⌝ }
 {
-    KeptPicture {
+    StoredPicture {
         phase,
         system: 0,
         width: 0,
@@ -39,11 +39,11 @@ fn unopened(phase: u8) -> KeptPicture
     }
 }
 
-fn kept_open(o: Opened) -> KeptPicture
-    ensures { λ r. ⌜ r ≡ keptOpen o ⌝ }
+fn stored_open(o: Opened) -> StoredPicture
+    ensures { λ r. ⌜ r ≡ storedOpen o ⌝ }
 {
     let system = o.system;
-    KeptPicture {
+    StoredPicture {
         phase: 1,
         system: system.number() as u8,
         width: o.width,
@@ -53,7 +53,7 @@ fn kept_open(o: Opened) -> KeptPicture
 }
 
 // A picture that no call made is taken as fresh.
-pub fn picture_of(k: KeptPicture) -> Picture
+pub fn picture_of(k: StoredPicture) -> Picture
     ensures { λ r. ⌜ r ≡ pictureOf k ⌝ }
 {
     let phase = k.phase;
@@ -64,7 +64,7 @@ pub fn picture_of(k: KeptPicture) -> Picture
     }
 }
 
-fn open_phase(k: KeptPicture) -> Phase
+fn open_phase(k: StoredPicture) -> Phase
     ensures { λ r. ⌜ r ≡ openPhase k ⌝ }
 {
     match System::from_number(k.system as u32) {

@@ -1,4 +1,4 @@
-"""Makes crates/blocks/data/ from rows.py: python3 reference/make_blocks.py
+"""Makes crates/check_blocks/data/ from rows.py: python3 reference/make_blocks.py
 
 All numbers are unsigned, low byte first. The same bytes come at every run.
 
@@ -15,7 +15,7 @@ from exact import SYSTEMS, nominal, nominal_codes
 from pseudorandom import Random
 from rows import LAST_ROW, WIDEST, block, nominal_differences, read_block, words_of_codes
 
-DATA = Path(__file__).resolve().parent.parent / "crates" / "blocks" / "data"
+DATA = Path(__file__).resolve().parent.parent / "crates" / "check_blocks" / "data"
 
 WIDTHS = (1, 2, 3, 5)
 FAULTY_PER_SYSTEM = 400

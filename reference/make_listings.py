@@ -1,4 +1,4 @@
-"""Makes crates/listings/data/ and crates/listings/stdout from rows.py: python3 reference/make_listings.py
+"""Makes crates/check_listings/data/ and crates/check_listings/stdout from rows.py: python3 reference/make_listings.py
 
 Each file of data/ is an input of rowlist; stdout has what rowlist prints for each, under the file's name. The same bytes come at
 every run.
@@ -12,7 +12,7 @@ from make_blocks import random_block, replaced, word
 from pseudorandom import Random
 from rows import LAST_ROW, WIDEST, block
 
-CRATE = Path(__file__).resolve().parent.parent / "crates" / "listings"
+CRATE = Path(__file__).resolve().parent.parent / "crates" / "check_listings"
 
 
 def inputs():

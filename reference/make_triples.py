@@ -1,4 +1,4 @@
-"""Makes crates/triples/data/ from rows.py: python3 reference/make_triples.py
+"""Makes crates/check_triples/data/ from rows.py: python3 reference/make_triples.py
 
 All numbers are unsigned, low byte first. The same bytes come at every run.
 
@@ -20,7 +20,7 @@ from exact import SYSTEMS, nominal, nominal_codes
 from pseudorandom import Random
 from rows import nominal_differences
 
-DATA = Path(__file__).resolve().parent.parent / "crates" / "triples" / "data"
+DATA = Path(__file__).resolve().parent.parent / "crates" / "check_triples" / "data"
 
 GRID_LEVELS = 40
 STEPS_PER_EDGE = 16

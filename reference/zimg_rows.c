@@ -1,6 +1,6 @@
 // Rows that zimg makes of R'G'B' codes, and codes that it makes of these rows:
 //
-//     gcc -O2 -o /tmp/zimg_rows reference/zimg_rows.c -lzimg && /tmp/zimg_rows crates/zimg/data
+//     gcc -O2 -o /tmp/zimg_rows reference/zimg_rows.c -lzimg && /tmp/zimg_rows crates/check_zimg/data
 //
 // For each system of document 01, a picture of LEVELS² rows of LEVELS samples: row LEVELS·i + j has R' at level i, G' at level j and
 // B' at level k in sample k. Level i is the code 16s + 219s·i/(LEVELS − 1), fractions dropped. zimg converts it to Y'CbCr and that

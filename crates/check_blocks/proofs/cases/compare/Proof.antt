@@ -1,0 +1,103 @@
+use Prim.Native.Nat.{_+_, _-_, _≤_}
+use mathlib.Core.Path.{_≡_, sym, ap, _∙_}
+use mathlib.Core.Bool.{true}
+use native.Mathlib.Omega.{arith}
+use lib.ListN.{length, length-take, length-drop}
+use denote.Ref.{now}
+use borrow.Author.Needs.{needs}
+use Rattle.check_blocks.specs.Cases.{caseAt, sizeOf, wholeAt}
+use Rattle.check_blocks.proofs.Counting.{SoFar, none-yet, one-more, all-counted, whole-fits}
+use Rattle.check_blocks.proofs.cases.compare.Statement.{statement}
+use Rattle.check_blocks.proofs.cases.compare.Tie as tie
+
+abbrev Inv-loop : tie.InvT-loop
+Inv-loop cases refusal tally₀ at₀ tally at = SoFar cases refusal at tally
+
+abbrev μ-loop : tie.MeasureT-loop
+μ-loop cases refusal tally₀ at₀ tally at = length cases - at
+
+-- the case at the loop's place lies within the cases
+here : (c : tie.After-size Inv-loop μ-loop) → wholeAt (now (c .before .before .before .before .before .before .args .cases)) (c .before .before .before .before .loop .at) ≡ true
+here c = sym (c .before .before .before .holds-case .ensures) ∙ c .before .before .if1 .taken
+
+fits : (c : tie.After-size Inv-loop μ-loop) → (c .before .before .before .before .loop .at + 16 ≤ length (now (c .before .before .before .before .before .before .args .cases))) × (c .before .before .before .before .loop .at + sizeOf (caseAt (now (c .before .before .before .before .before .before .args .cases)) (c .before .before .before .before .loop .at)) ≤ length (now (c .before .before .before .before .before .before .args .cases)))
+fits c = whole-fits (now (c .before .before .before .before .before .before .args .cases)) (c .before .before .before .before .loop .at) (here c)
+
+sized : (c : tie.After-size Inv-loop μ-loop) → c .size .result ≡ sizeOf (caseAt (now (c .before .before .before .before .before .before .args .cases)) (c .before .before .before .before .loop .at))
+sized c = c .size .ensures .0 ∙ ap sizeOf (c .before .case-at .ensures)
+
+loop-holds : tie.Need-loop-holds Inv-loop μ-loop
+loop-holds c = none-yet _ _
+
+holds-case-requires : tie.Need-holds-case-requires Inv-loop μ-loop
+holds-case-requires c κs = c .loop .inv .within
+
+case-at-requires : tie.Need-case-at-requires Inv-loop μ-loop
+case-at-requires c κs = omega (arith, whole-fits (now (c .before .before .before .before .args .cases)) (c .before .before .loop .at) (sym (c .before .holds-case .ensures) ∙ c .if1 .taken))
+
+size-requires : tie.Need-size-requires Inv-loop μ-loop
+size-requires c κs = search needs
+
+add-with-case : tie.Need-add-with-case Inv-loop μ-loop
+add-with-case c = omega (arith, fits c, sized c)
+
+add-with-case-2 : tie.Need-add-with-case-2 Inv-loop μ-loop
+add-with-case-2 c = omega (arith, fits c, sized c)
+
+sub-with-case : tie.Need-sub-with-case Inv-loop μ-loop
+sub-with-case c = omega (arith, fits c, sized c)
+
+part-with-case-start : tie.Need-part-with-case-start Inv-loop μ-loop
+part-with-case-start c = omega (arith, fits c, sized c)
+
+part-with-case-end : tie.Need-part-with-case-end Inv-loop μ-loop
+part-with-case-end c = omega (arith, fits c, sized c)
+
+with-case-requires : tie.Need-with-case-requires Inv-loop μ-loop
+with-case-requires c κs = simp (length-take, length-drop) (omega (arith, fits (c .before), sized (c .before), c .before .size .ensures .0))
+
+add-at : tie.Need-add-at Inv-loop μ-loop
+add-at c = omega (arith, fits (c .before .before), sized (c .before .before))
+
+loop-less : tie.Need-loop-less Inv-loop μ-loop
+loop-less c = omega (arith, fits (c .before .before), sized (c .before .before))
+
+loop-again : tie.Need-loop-again Inv-loop μ-loop
+loop-again c =
+    let at = c .before .before .before .before .before .before .loop .at in
+    let size = c .before .before .size .result in
+    let n : (at + size) - (at + 16) ≡ sizeOf (caseAt (now (c .before .before .before .before .before .before .before .before .args .cases)) at) - 16 = omega (arith, fits (c .before .before), sized (c .before .before)) in
+    let here-tallied = rw (n, c .before .before .before .case-at .ensures) at (c .with-case .ensures) in
+    one-more (c .before .before .before .before .before .before .loop .inv) _ (here (c .before .before)) (sized (c .before .before)) here-tallied
+
+sub-ended : tie.Need-sub-ended Inv-loop μ-loop
+sub-ended c = c .before .before .loop .inv .within
+
+ended-requires : tie.Need-ended-requires Inv-loop μ-loop
+ended-requires c κs = search needs
+
+returns : tie.Need-returns Inv-loop μ-loop
+returns c = all-counted (c .before .before .before .loop .inv) (sym (c .before .before .holds-case .ensures) ∙ c .before .if1 .left) (c .ended .ensures)
+
+pub compare-spec : {M : Type 1} → statement M
+compare-spec =
+    tie.close
+    (tie.spec
+    Inv-loop
+    μ-loop
+    loop-holds
+    holds-case-requires
+    case-at-requires
+    size-requires
+    add-with-case
+    add-with-case-2
+    sub-with-case
+    part-with-case-start
+    part-with-case-end
+    with-case-requires
+    add-at
+    loop-less
+    loop-again
+    sub-ended
+    ended-requires
+    returns)

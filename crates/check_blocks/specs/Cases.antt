@@ -1,0 +1,91 @@
+-- The cases of the file that reference/make_blocks.py makes, and whether reading agrees with them. Definitions only.
+use Prim.Native.Nat.{ℕ, zero, suc, _+_, _*_, _-_, _/_, _%_, _<_}
+use mathlib.Core.Path.{_≡_}
+use mathlib.Core.Bool.{Bool, true, false, _&&_, cond}
+use mathlib.Core.List.{List, [], _∷_, _++_}
+use lib.Dec.{eqb, ltb, leb}
+use lib.ListN.{length, getD, take, drop}
+use Rattle.exact.specs.Outcome.{Outcome, accepted, refused}
+use Rattle.systems.specs.Systems.{number}
+use Rattle.block.specs.declared.Header.{Header}
+use Rattle.block.specs.Read.{headerOf, sliceAfter}
+use Rattle.check_records.specs.declared.tally.Tally.{Tally}
+use Rattle.check_records.specs.Records.{u16At, u32At, none, tallied, ended}
+use Rattle.check_blocks.specs.declared.cases.Case.{Case}
+
+-- what stands at a place of the lent slice before the call, and the slice of n such places
+abbrev pub before : ℕ → ℕ
+before i = 40000 + i % 25536
+
+unfoldable pub filled : ℕ → List ℕ
+filled zero = []
+filled (suc n) = filled n ++ before n ∷ []
+
+-- what has to stand there after it: the codes that are due, 2 bytes each, and beyond them what stood there before
+abbrev pub due : List ℕ → ℕ → ℕ
+due codes i = cond (ltb i (length codes / 2)) (u16At codes (2 * i)) (before i)
+
+-- the first n places of a slice hold what is due
+unfoldable pub dueTo : List ℕ → List ℕ → ℕ → Bool
+dueTo slice codes zero = true
+dueTo slice codes (suc n) = dueTo slice codes n && eqb (getD slice n 0) (due codes n)
+
+-- the numbers of the case at a place
+abbrev pub caseAt : List ℕ → ℕ → Case
+caseAt bs i = record {
+  places = u16At bs i;
+  refusal = u16At bs (i + 2);
+  length = u16At bs (i + 4);
+  system = u16At bs (i + 6);
+  row = u16At bs (i + 8);
+  samples = u16At bs (i + 10);
+  clipped = u32At bs (i + 12);
+}
+
+-- the bytes of a case: the numbers, the block and the codes
+abbrev pub sizeOf : Case → ℕ
+sizeOf c = 16 + c .length + 6 * c .samples
+
+abbrev pub sameHeader : Header → Case → Bool
+sameHeader h c = eqb (number (h .system)) (c .system) && eqb (h .row) (c .row) && eqb (h .samples) (c .samples) && eqb (h .clipped) (c .clipped)
+
+-- the answer is the case's: its header where the refusal is 0, or its refusal
+abbrev pub agrees : Outcome Header → Case → Bool
+agrees (accepted h) c = eqb (c .refusal) 0 && sameHeader h c
+agrees (refused n) c = eqb n (c .refusal)
+
+-- reading the block into a slice of so many places gives the case's answer, and the codes at the slice's front alone
+unfoldable pub answered : Case → List ℕ → List ℕ → ℕ → Bool
+answered c block codes places = agrees (headerOf block places) c && dueTo (sliceAfter block (filled places)) codes places
+
+-- a case is met by the bytes behind its numbers: the block, and the codes that are due
+abbrev pub met : Case → List ℕ → Bool
+met c bs = answered c (take (c .length) bs) (drop (c .length) bs) (c .places)
+
+-- the place of case n
+unfoldable pub place : List ℕ → ℕ → ℕ
+place bs zero = 0
+place bs (suc n) = place bs n + sizeOf (caseAt bs (place bs n))
+
+-- a whole case stands at a place
+abbrev pub wholeAt : List ℕ → ℕ → Bool
+wholeAt bs at = leb (at + 16) (length bs) && leb (at + sizeOf (caseAt bs at)) (length bs)
+
+-- the tally after a case and the bytes behind its numbers: it counts where its refusal is the one in question
+abbrev pub caseTallied : Case → List ℕ → ℕ → Tally → Tally
+caseTallied c bs refusal t = cond (eqb (c .refusal) refusal) (tallied t (met c bs)) t
+
+-- the tally after the case at a place
+abbrev pub talliedAt : List ℕ → ℕ → ℕ → Tally → Tally
+talliedAt bs refusal at t = caseTallied (caseAt bs at) (take (sizeOf (caseAt bs at) - 16) (drop (at + 16) bs)) refusal t
+
+unfoldable pub tallyTo : List ℕ → ℕ → ℕ → Tally
+tallyTo bs refusal zero = none
+tallyTo bs refusal (suc n) = talliedAt bs refusal (place bs n) (tallyTo bs refusal n)
+
+-- the tally of all cases: of those that are there whole, up to the first that is not; bytes that are left are a case that is cut off
+pub record Compared (bs : List ℕ) (refusal : ℕ) (t : Tally) : Type 0 where
+  pub count : ℕ
+  pub whole : (i : ℕ) → i < count → wholeAt bs (place bs i) ≡ true
+  pub no-more : wholeAt bs (place bs count) ≡ false
+  pub tally : t ≡ ended (tallyTo bs refusal count) (length bs - place bs count)

@@ -1,0 +1,31 @@
+use mathlib.Core.Path.{sym, ap, _∙_}
+use Rattle.exact.specs.Outcome.{Outcome}
+use Prim.Native.Nat.{ℕ}
+use Rattle.light.specs.Light.{toldCode}
+use Rattle.check_values.specs.Vectors.{codeMet}
+use borrow.Author.Needs.{needs}
+use Rattle.check_values.proofs.lights.has_code.Statement.{statement}
+use Rattle.check_values.proofs.lights.has_code.Tie as tie
+
+code-of-light-requires : tie.Need-code-of-light-requires
+code-of-light-requires c κs = search needs
+
+enum-known-code : tie.Need-enum-known-code
+enum-known-code c = search needs
+
+enum-told : tie.Need-enum-told
+enum-told c = search needs
+
+returns : tie.Need-returns
+returns c =
+    let told = ap toldCode (sym (c .before .before .code .given .1)) ∙ c .before .before .before .before .code-of-light .ensures in
+    ap (λ (o : Outcome ℕ). codeMet o (c .before .before .before .before .before .args .place .code)) told
+
+returns-2 : tie.Need-returns-2
+returns-2 c =
+    let told = ap toldCode (sym (c .enum-told .given .1)) ∙ c .before .before .code-of-light .ensures in
+    ap (λ (o : Outcome ℕ). codeMet o (c .before .before .before .args .place .code)) told
+
+pub has-code-spec : {M : Type 1} → statement M
+has-code-spec =
+    tie.close (tie.spec code-of-light-requires enum-known-code enum-told returns returns-2)

@@ -1,0 +1,30 @@
+use mathlib.Core.Path.{sym, ap, _∙_}
+use Rattle.exact.specs.Outcome.{Outcome}
+use Rattle.light.specs.declared.Span.{Span}
+use Rattle.light.specs.Light.{toldSpan}
+use Rattle.check_values.specs.Vectors.{spanMet}
+use borrow.Author.Needs.{needs}
+use Rattle.check_values.proofs.lights.is_span.Statement.{statement}
+use Rattle.check_values.proofs.lights.is_span.Tie as tie
+
+span-of-code-requires : tie.Need-span-of-code-requires
+span-of-code-requires c κs = search needs
+
+enum-known-s : tie.Need-enum-known-s
+enum-known-s c = search needs
+
+enum-told : tie.Need-enum-told
+enum-told c = search needs
+
+returns : tie.Need-returns
+returns c =
+    let told = ap toldSpan (sym (c .before .before .before .before .before .s .given .1)) ∙ c .before .before .before .before .before .before .before .span-of-code .ensures in
+    ap (λ (o : Outcome Span). spanMet o (c .before .before .before .before .before .before .before .before .args .span)) told
+
+returns-2 : tie.Need-returns-2
+returns-2 c =
+    let told = ap toldSpan (sym (c .enum-told .given .1)) ∙ c .before .before .span-of-code .ensures in
+    ap (λ (o : Outcome Span). spanMet o (c .before .before .before .args .span)) told
+
+pub is-span-spec : {M : Type 1} → statement M
+is-span-spec = tie.close (tie.spec span-of-code-requires enum-known-s enum-told returns returns-2)

@@ -1,0 +1,41 @@
+use mathlib.Core.Path.{sym, ap, _∙_}
+use Rattle.exact.specs.Outcome.{Outcome}
+use Rattle.systems.specs.declared.Codes.{Codes}
+use Rattle.signals.specs.Signals.{quantised}
+use Rattle.check_values.specs.Vectors.{codesMet}
+use borrow.Author.Needs.{needs}
+use Rattle.check_values.proofs.quantised.Case.is.Statement.{statement}
+use Rattle.check_values.proofs.quantised.Case.is.Tie as tie
+
+codes-of-signals-requires : tie.Need-codes-of-signals-requires
+codes-of-signals-requires c κs = search needs
+
+enum-known-c : tie.Need-enum-known-c
+enum-known-c c = search needs
+
+enum-known-refusal : tie.Need-enum-known-refusal
+enum-known-refusal c = search needs
+
+number-requires : tie.Need-number-requires
+number-requires c κs = search needs
+
+returns : tie.Need-returns
+returns c =
+    let told = ap quantised (sym (c .before .before .before .before .before .before .before .before .c .given .1)) ∙ c .before .before .before .before .before .before .before .before .before .before .codes-of-signals .ensures in
+    ap (λ (o : Outcome Codes). codesMet o (c .before .before .before .before .before .before .before .before .before .before .before .args .self .code) (c .before .before .before .before .before .before .before .before .before .before .before .args .codes)) told
+
+returns-2 : tie.Need-returns-2
+returns-2 c =
+    let told = ap quantised (sym (c .before .before .before .refusal .given .1)) ∙ c .before .before .before .before .before .codes-of-signals .ensures in
+    rw (c .number .ensures) (ap (λ (o : Outcome Codes). codesMet o (c .before .before .before .before .before .before .args .self .code) (c .before .before .before .before .before .before .args .codes)) told)
+
+pub is-spec : {M : Type 1} → statement M
+is-spec =
+    tie.close
+    (tie.spec
+    codes-of-signals-requires
+    enum-known-c
+    enum-known-refusal
+    number-requires
+    returns
+    returns-2)

@@ -1,0 +1,41 @@
+use mathlib.Core.Path.{sym, ap, _∙_}
+use Rattle.exact.specs.Outcome.{Outcome}
+use Prim.Native.Nat.{ℕ}
+use Rattle.light.specs.Light.{toldCode}
+use Rattle.check_values.specs.Vectors.{refusedWith}
+use borrow.Author.Needs.{needs}
+use Rattle.check_values.proofs.refusals.light_refused.Statement.{statement}
+use Rattle.check_values.proofs.refusals.light_refused.Tie as tie
+
+code-of-light-requires : tie.Need-code-of-light-requires
+code-of-light-requires c κs = search needs
+
+enum-told : tie.Need-enum-told
+enum-told c = search needs
+
+enum-known-refusal : tie.Need-enum-known-refusal
+enum-known-refusal c = search needs
+
+number-requires : tie.Need-number-requires
+number-requires c κs = search needs
+
+returns : tie.Need-returns
+returns c =
+    let told = ap toldCode (sym (c .enum-told .given .1)) ∙ c .before .before .code-of-light .ensures in
+    ap (λ (o : Outcome ℕ). refusedWith o (c .before .before .before .args .number)) told
+
+returns-2 : tie.Need-returns-2
+returns-2 c =
+    let told = ap toldCode (sym (c .before .before .refusal .given .1)) ∙ c .before .before .before .before .code-of-light .ensures in
+    rw (c .number .ensures) (ap (λ (o : Outcome ℕ). refusedWith o (c .before .before .before .before .before .args .number)) told)
+
+pub light-refused-spec : {M : Type 1} → statement M
+light-refused-spec =
+    tie.close
+    (tie.spec
+    code-of-light-requires
+    enum-told
+    enum-known-refusal
+    number-requires
+    returns
+    returns-2)

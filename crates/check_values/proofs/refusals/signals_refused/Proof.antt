@@ -1,0 +1,41 @@
+use mathlib.Core.Path.{sym, ap, _∙_}
+use Rattle.exact.specs.Outcome.{Outcome}
+use Rattle.systems.specs.declared.Codes.{Codes}
+use Rattle.signals.specs.Signals.{quantised}
+use Rattle.check_values.specs.Vectors.{refusedWith}
+use borrow.Author.Needs.{needs}
+use Rattle.check_values.proofs.refusals.signals_refused.Statement.{statement}
+use Rattle.check_values.proofs.refusals.signals_refused.Tie as tie
+
+codes-of-signals-requires : tie.Need-codes-of-signals-requires
+codes-of-signals-requires c κs = search needs
+
+enum-told : tie.Need-enum-told
+enum-told c = search needs
+
+enum-known-refusal : tie.Need-enum-known-refusal
+enum-known-refusal c = search needs
+
+number-requires : tie.Need-number-requires
+number-requires c κs = search needs
+
+returns : tie.Need-returns
+returns c =
+    let told = ap quantised (sym (c .enum-told .given .1)) ∙ c .before .before .codes-of-signals .ensures in
+    ap (λ (o : Outcome Codes). refusedWith o (c .before .before .before .args .number)) told
+
+returns-2 : tie.Need-returns-2
+returns-2 c =
+    let told = ap quantised (sym (c .before .before .refusal .given .1)) ∙ c .before .before .before .before .codes-of-signals .ensures in
+    rw (c .number .ensures) (ap (λ (o : Outcome Codes). refusedWith o (c .before .before .before .before .before .args .number)) told)
+
+pub signals-refused-spec : {M : Type 1} → statement M
+signals-refused-spec =
+    tie.close
+    (tie.spec
+    codes-of-signals-requires
+    enum-told
+    enum-known-refusal
+    number-requires
+    returns
+    returns-2)

@@ -2,3 +2,4 @@
 mod calls;
 mod picture_calls;
 mod picture_kept;
+mod version;

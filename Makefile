@@ -45,9 +45,10 @@ example: $(BUILD)/first $(BUILD)/ramp
 	$(BUILD)/first
 	$(BUILD)/ramp
 
-example-rust: $(BUILD)/ramp-rust $(BUILD)/ramp
+example-rust: $(BUILD)/ramp-rust $(BUILD)/parallel-rust $(BUILD)/ramp
 	$(BUILD)/ramp-rust | tee $(BUILD)/ramp-rust.out
 	$(BUILD)/ramp | diff - $(BUILD)/ramp-rust.out
+	$(BUILD)/parallel-rust
 
 $(BUILD)/%: examples/%.c $(HEADER) $(ARCHIVE) | $(BUILD)
 	@$(NEED) c
@@ -61,7 +62,7 @@ $(BUILD)/libferghulta.rlib: examples/ferghulta.rs $(ARCHIVE) | $(BUILD)
 	@$(NEED) rust
 	$(RUST) --crate-type rlib -L $(dir $(ARCHIVE)) $< -o $@
 
-$(BUILD)/ramp-rust: examples/ramp.rs $(BUILD)/libferghulta.rlib
+$(BUILD)/%-rust: examples/%.rs $(BUILD)/libferghulta.rlib
 	$(RUST) --extern ferghulta=$(BUILD)/libferghulta.rlib $< -o $@
 
 $(BUILD)/libferghulta.so: $(ARCHIVE) | $(BUILD)
@@ -139,14 +140,14 @@ install-needs:
 
 # ---- installation
 
-install: $(ARCHIVE) check-version | absolute
+install: absolute $(ARCHIVE) check-version
 	mkdir -p '$(DESTDIR)$(PREFIX)/include' '$(DESTDIR)$(LIBDIR)/pkgconfig'
 	install -m 644 $(HEADER) '$(DESTDIR)$(PREFIX)/include/ferghulta.h'
 	install -m 644 $(ARCHIVE) '$(DESTDIR)$(LIBDIR)/libferghulta.a'
 	sed 's|@PREFIX@|$(PREFIX)|; s|@LIBDIR@|$(patsubst $(PREFIX)/%,$${prefix}/%,$(LIBDIR))|; s|@VERSION@|$(VERSION)|' \
 		ferghulta.pc.in > '$(DESTDIR)$(LIBDIR)/pkgconfig/ferghulta.pc'
 
-uninstall: | absolute
+uninstall: absolute
 	rm -f '$(DESTDIR)$(PREFIX)/include/ferghulta.h' '$(DESTDIR)$(LIBDIR)/libferghulta.a'
 	rm -f '$(DESTDIR)$(LIBDIR)/pkgconfig/ferghulta.pc'
 
@@ -165,7 +166,7 @@ help:
 	@echo 'make needs              what the targets need, where it comes from, and what is missing'
 	@echo 'make install-needs      installs what is missing and Debian has; nothing else here installs a package'
 	@echo 'make example            C examples: the program of README.md, and pictures sent and read back'
-	@echo 'make example-rust       the latter in Rust; fails where it prints something else'
+	@echo 'make example-rust       the latter in Rust, which has to print the same; rows sent by several threads'
 	@echo 'make check              the interface: check-c (bench values through the header, as C and as C++),'
 	@echo '                        check-header (old and new C and C++, and mistakes that it must refuse),'
 	@echo '                        check-version, check-docs (program and figure of README.md)'

@@ -183,7 +183,8 @@ unsafe extern "C" {
 impl System {
     pub const ALL: [System; 4] = [System::Bt709Bits8, System::Bt709Bits10, System::Bt2020Bits10, System::Bt2020Bits12];
 
-    /// Never refused: a `System` is one of the four, and every light has a code.
+    /// Never refused: a `System` is one of the four, and every light has a code. A single one costs as much as many
+    /// lights of a row.
     #[must_use]
     pub fn code_of_light(self, light: u16) -> u16 {
         ferghulta_code_of_light(self, light).values

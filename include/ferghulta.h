@@ -1,5 +1,5 @@
 /* Ferghulta: rows of linear light become Y'CbCr words of BT.709 and BT.2020 in 4:4:4, in row blocks, and blocks are
- * read back. docs/CONVERSION.md says in two pages what is computed. The archive is for x86-64 Linux and calls nothing
+ * read back. The source's docs/CONVERSION.md says what is computed. The archive is for x86-64 Linux and calls nothing
  * else, not even the C library; this header is C89 with <stdint.h>, and C++98, or later.
  *
  * Every call is proved to give the answer that the definitions in crates/ have for its arguments, whatever they are. No
@@ -12,8 +12,8 @@
  * - Memory that is written overlaps no other argument: where it does, wrong bytes are written and nothing tells.
  * - A pointer is never null, with a count of 0 neither; with a count of 0 any other pointer will do, and is not
  *   followed. (gcc and clang warn of a null that they see, and -fsanitize=undefined finds the others.)
- * - The calls with lights find up to 40 KB of stack.
- * - The calls on signals find floating point as a C program starts with it: rounding to nearest, subnormals kept (a
+ * - The calls with lights need up to 40 KB of stack.
+ * - The calls on signals need floating point as a C program starts with it: rounding to nearest, subnormals kept (a
  *   program linked with -ffast-math drops them, and a signal just below 0 would pass for 0).
  *
  * An answer has a field `refusal`: 0 where the call was accepted, else the number of the refusal. Then the answer's

@@ -1,6 +1,6 @@
 //! Block reading: whole and damaged blocks into slices that are long enough or not.
 use crate::answers::BlockAnswer;
-use crate::door;
+use crate::library;
 use crate::exact::{self, System, MOST_SAMPLES, SYSTEMS};
 use crate::lent::Lent;
 use crate::pseudorandom::Pseudorandom;
@@ -11,7 +11,7 @@ fn compare(tally: &mut Tally, bytes: &[u8], places: usize, random: &mut Pseudora
     let lent = Lent::holding(bytes, random);
     let codes = Lent::<u16>::blank(places, random);
     let got =
-        unsafe { door::ferghulta_read_block(lent.pointer(), bytes.len(), codes.pointer(), places) };
+        unsafe { library::ferghulta_read_block(lent.pointer(), bytes.len(), codes.pointer(), places) };
     let wanted = exact::read_block(bytes, places);
     let answer = BlockAnswer::from(&wanted);
     let written = wanted.map_or(vec![], |row| row.codes);

@@ -1,7 +1,7 @@
 //! Lists of open, row and close from a fresh picture beside the row book, and demand 3 of the rows that the book accepts.
 use crate::answers::{BlockAnswer, Picture, PictureAnswer};
 use crate::blocks::hexadecimal;
-use crate::door;
+use crate::library;
 use crate::exact::{self, Outcome, Picture as Book, System};
 use crate::lent::Lent;
 use crate::pictures::{any_lights, start};
@@ -32,7 +32,7 @@ impl List {
         let most_samples = if random.once_in(500) { 7680 } else { 8 };
         let room = exact::block_bytes(most_samples) + 3;
         List {
-            picture: unsafe { door::ferghulta_new() },
+            picture: unsafe { library::ferghulta_new() },
             book: Book::Fresh,
             entries: vec![],
             buffer: Lent::blank(room, random),
@@ -60,13 +60,13 @@ impl List {
         let any = random.below(self.most_samples + 1) as u32;
         let width = random.pick(&[any, any, any, self.most_samples as u32]);
         let height = random.below(5) as u32;
-        let got = unsafe { door::ferghulta_open(self.picture, system, width, height) };
+        let got = unsafe { library::ferghulta_open(self.picture, system, width, height) };
         let outcome = exact::open(self.book, system, width, height);
         self.compare(tally, got, outcome, &[]);
     }
 
     fn close(&mut self, tally: &mut Tally) {
-        let got = unsafe { door::ferghulta_close(self.picture) };
+        let got = unsafe { library::ferghulta_close(self.picture) };
         self.compare(tally, got, exact::close(self.book), &[]);
     }
 
@@ -80,7 +80,7 @@ impl List {
         let room = room - usize::from(random.once_in(12));
         let lights = Lent::holding(&any_lights(count, random), random);
         let (given, out) = (lights.pointer(), self.buffer.pointer());
-        let got = unsafe { door::ferghulta_row(self.picture, given, count, out, room) };
+        let got = unsafe { library::ferghulta_row(self.picture, given, count, out, room) };
         tally.count(0, lights.holds(&[]), || "a row changed its lights".into());
         match exact::row(self.book, lights.part(), room) {
             Ok((after, block)) => {
@@ -133,7 +133,7 @@ fn read_back(tally: &mut Tally, entry: &Entry, random: &mut Pseudorandom) {
     let places = entry.lights.len() + random.below(3);
     let codes = Lent::<u16>::blank(places, random);
     let got = unsafe {
-        door::ferghulta_read_block(block.pointer(), block.length(), codes.pointer(), places)
+        library::ferghulta_read_block(block.pointer(), block.length(), codes.pointer(), places)
     };
     let wanted = exact::read_block(&entry.block, places);
     let agree = got == BlockAnswer::from(&wanted)

@@ -4,9 +4,9 @@
 mod answers;
 mod bench;
 mod blocks;
-mod door;
 mod exact;
 mod lent;
+mod library;
 mod lists;
 mod natural;
 mod pictures;

@@ -1,6 +1,6 @@
 //! The calls on a picture, each by itself and on any eight bytes.
 use crate::answers::{Picture, PictureAnswer};
-use crate::door::{self, filled};
+use crate::library::{self, filled};
 use crate::exact::{self, MOST_SAMPLES};
 use crate::lent::Lent;
 use crate::pseudorandom::Pseudorandom;
@@ -92,7 +92,7 @@ fn any_picture(random: &mut Pseudorandom) -> Picture {
 pub fn new(effort: &Effort) -> bool {
     let mut tally = Tally::new("new");
     for _ in 0..1 + effort.cases / 100 {
-        let got = unsafe { door::ferghulta_new() };
+        let got = unsafe { library::ferghulta_new() };
         tally.count(0, got == Picture::unopened(0), || format!("{got:?}"));
     }
     tally.end()
@@ -100,7 +100,7 @@ pub fn new(effort: &Effort) -> bool {
 
 fn open_one(tally: &mut Tally, picture: Picture, arguments: [u32; 3], random: &mut Pseudorandom) {
     let [system, width, height] = arguments;
-    let got = unsafe { door::ferghulta_open(picture, system, width, height) };
+    let got = unsafe { library::ferghulta_open(picture, system, width, height) };
     let outcome = exact::open(picture.taken(), system, width, height);
     let wanted = PictureAnswer::of(picture, outcome);
     let agree = got == wanted && got == open_filled(picture, arguments, random);
@@ -144,7 +144,7 @@ pub fn open(effort: &Effort, random: &mut Pseudorandom) -> bool {
 }
 
 fn close_one(tally: &mut Tally, picture: Picture) {
-    let got = unsafe { door::ferghulta_close(picture) };
+    let got = unsafe { library::ferghulta_close(picture) };
     let wanted = PictureAnswer::of(picture, exact::close(picture.taken()));
     tally.count(wanted.refusal, got == wanted, || {
         format!("{picture:?}: {got:?}, wanted {wanted:?}")
@@ -197,7 +197,7 @@ fn row_of(
     let count = lights.len();
     let lights = Lent::holding(lights, random);
     let out = Lent::<u8>::blank(room, random);
-    let got = unsafe { door::ferghulta_row(picture, lights.pointer(), count, out.pointer(), room) };
+    let got = unsafe { library::ferghulta_row(picture, lights.pointer(), count, out.pointer(), room) };
     let (wanted, block) = row_wanted(picture, lights.part(), room);
     let agree = got == wanted && out.holds(&block) && lights.holds(&[]);
     tally.count(wanted.refusal, agree, || {

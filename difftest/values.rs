@@ -1,6 +1,6 @@
 //! The calls on single values and triples.
 use crate::answers::*;
-use crate::door::{self, filled};
+use crate::library::{self, filled};
 use crate::exact::{self, System, SYSTEMS};
 use crate::pseudorandom::Pseudorandom;
 use crate::tally::Tally;
@@ -25,7 +25,7 @@ pub fn any_system(random: &mut Pseudorandom) -> u32 {
 // ---- lights and codes
 
 fn light(tally: &mut Tally, system: u32, light: u16) {
-    let got = unsafe { door::ferghulta_code_of_light(system, light) };
+    let got = unsafe { library::ferghulta_code_of_light(system, light) };
     let wanted = CodeAnswer::from(exact::code_of_light(system, light));
     tally.count(wanted.refusal, got == wanted, || {
         format!("system {system} light {light}: {got:?}, wanted {wanted:?}")
@@ -47,7 +47,7 @@ pub fn lights(effort: &Effort, random: &mut Pseudorandom) -> bool {
 }
 
 fn span(tally: &mut Tally, system: u32, code: u16) {
-    let got = unsafe { door::ferghulta_span_of_code(system, code) };
+    let got = unsafe { library::ferghulta_span_of_code(system, code) };
     let wanted = SpanAnswer::from(exact::span_of_code(system, code));
     tally.count(wanted.refusal, got == wanted, || {
         format!("system {system} code {code}: {got:?}, wanted {wanted:?}")
@@ -85,7 +85,7 @@ fn signed_edges() -> Vec<u32> {
 
 #[inline]
 fn signals(tally: &mut Tally, system: u32, bits: [u32; 3]) {
-    let got = unsafe { door::ferghulta_codes_of_signals(system, bits.into()) };
+    let got = unsafe { library::ferghulta_codes_of_signals(system, bits.into()) };
     let wanted = TripleAnswer::from(exact::codes_of_signals(system, bits));
     tally.count(wanted.refusal, got == wanted, || {
         format!("system {system} signals {bits:x?}: {got:?}, wanted {wanted:?}")
@@ -161,7 +161,7 @@ fn triples<T: Copy>(items: &[T], stride: usize) -> impl Iterator<Item = [T; 3]> 
 }
 
 fn restored(tally: &mut Tally, system: u32, codes: [u16; 3]) {
-    let got = unsafe { door::ferghulta_signals_of_codes(system, codes.into()) }.bits();
+    let got = unsafe { library::ferghulta_signals_of_codes(system, codes.into()) }.bits();
     let wanted = SignalsAnswer::from(exact::signals_of_codes(system, codes)).bits();
     tally.count(
         wanted.0,
@@ -172,7 +172,7 @@ fn restored(tally: &mut Tally, system: u32, codes: [u16; 3]) {
 
 /// 'Quantising that returns D.'
 fn returns(system: u32, codes: [u16; 3], (refusal, bits): (u32, [u32; 3])) -> bool {
-    let again = unsafe { door::ferghulta_codes_of_signals(system, bits.into()) };
+    let again = unsafe { library::ferghulta_codes_of_signals(system, bits.into()) };
     refusal != 0 || again == Ok(codes).into()
 }
 
@@ -250,7 +250,7 @@ fn edge_codes(effort: &Effort, mut compare: impl FnMut(u32, [u16; 3])) {
 }
 
 fn encoded(tally: &mut Tally, system: u32, codes: [u16; 3]) {
-    let got = unsafe { door::ferghulta_words_of_codes(system, codes.into()) };
+    let got = unsafe { library::ferghulta_words_of_codes(system, codes.into()) };
     let wanted = TripleAnswer::from(exact::words_of_codes(system, codes));
     tally.count(wanted.refusal, got == wanted, || {
         format!("system {system} codes {codes:?}: {got:?}, wanted {wanted:?}")
@@ -258,7 +258,7 @@ fn encoded(tally: &mut Tally, system: u32, codes: [u16; 3]) {
 }
 
 fn decoded(tally: &mut Tally, system: u32, words: [u16; 3]) {
-    let got = unsafe { door::ferghulta_codes_of_words(system, words.into()) };
+    let got = unsafe { library::ferghulta_codes_of_words(system, words.into()) };
     let wanted = DecodedAnswer::from(exact::codes_of_words(system, words));
     tally.count(wanted.refusal, got == wanted, || {
         format!("system {system} words {words:?}: {got:?}, wanted {wanted:?}")

@@ -1,5 +1,5 @@
-/* The document's bench values through the C interface, every call at least once: header, archive and compiler agree.
- * `make check-c` builds it as C and as C++ and runs both. */
+/* The bench values (docs/CONVERSION.md) through the C interface, every call at least once: header, archive and compiler
+ * agree. `make check-c` builds it as C and as C++ and runs both. */
 #include <stdio.h>
 #include <string.h>
 
@@ -103,7 +103,7 @@ static void widths(void) {
     expect("close", ferghulta_close(answer.picture).picture.phase, FERGHULTA_CLOSED);
 }
 
-/* The block of the document's listing. */
+/* The one-sample block of docs/CONVERSION.md. */
 static void listing(void) {
     static const uint8_t bytes[] = {1, 0, 0, 1, 0, 0xEB, 0, 1, 0, 0x80, 0, 1, 0, 0x80, 0};
     uint16_t codes[4] = {0, 0, 0, 9};
@@ -116,11 +116,44 @@ static void listing(void) {
     for (int j = 0; j < 4; j++) expect("code read", codes[j], j < 3 ? 235 : 9);
 }
 
+/* Rows that are sent last first, each with a copy of the picture whose `rows` is set, are those that are sent in turn. */
+static void rows_in_any_order(void) {
+    enum { ROWS = 3 };
+    static const uint16_t lights[ROWS][3] = {{0, 32768, 65535}, {65535, 0, 0}, {33, 34, 11796}};
+    uint8_t in_turn[ROWS][FERGHULTA_BLOCK_BYTES(1)], by_copies[ROWS][FERGHULTA_BLOCK_BYTES(1)];
+    ferghulta_picture picture = ferghulta_new();
+    expect("open in place", ferghulta_open_of(&picture, 2, 1, ROWS), 0);
+    const ferghulta_picture opened = picture;
+    for (int i = 0; i < ROWS; i++)
+        expect("row in place", ferghulta_row_of(&picture, lights[i], 3, in_turn[i], sizeof in_turn[i]), 0);
+    for (int i = ROWS; i-- > 0;) {
+        ferghulta_picture copy = opened;
+        copy.rows = (uint16_t)i;
+        expect("row of a copy", ferghulta_row(copy, lights[i], 3, by_copies[i], sizeof by_copies[i]).refusal, 0);
+    }
+    expect("the same blocks", memcmp(in_turn, by_copies, sizeof in_turn) == 0, 1);
+    ferghulta_picture joined = opened;
+    expect("close before the rows", ferghulta_close_of(&joined), FERGHULTA_REFUSED_ROWS_MISSING);
+    joined.rows = ROWS;
+    expect("close after the rows", ferghulta_close_of(&joined), 0);
+    expect("closed in place", joined.phase, FERGHULTA_CLOSED);
+}
+
+/* Each number of the list has words of its own, and no other number has words of the list. */
+static void refusal_texts(void) {
+    unsigned listed = 0;
+    for (uint32_t number = 1; number < 256; number++)
+        listed += strcmp(ferghulta_refusal_text(number), ferghulta_refusal_text(256)) != 0;
+    expect("refusals with words", listed, 15);
+    expect("accepted in words", strcmp(ferghulta_refusal_text(FERGHULTA_ACCEPTED), "accepted") == 0, 1);
+}
+
 static void version(void) {
     char numbers[32];
     snprintf(numbers, sizeof numbers, "%d.%d.%d", FERGHULTA_VERSION_MAJOR, FERGHULTA_VERSION_MINOR,
              FERGHULTA_VERSION_PATCH);
     expect("version", strcmp(numbers, FERGHULTA_VERSION) == 0, 1);
+    expect("archive's version", ferghulta_version(), FERGHULTA_VERSION_NUMBER);
 }
 
 int main(void) {
@@ -128,6 +161,8 @@ int main(void) {
     triples();
     widths();
     listing();
+    rows_in_any_order();
+    refusal_texts();
     version();
     printf("bench values: %u tried, %u wrong\n", tried, wrong);
     return wrong != 0;

@@ -1,8 +1,17 @@
 //! Ferghulta from Rust: the calls of include/ferghulta.h with enums, slices and `Result`. What the header says of each
-//! call holds here. Needs Rust 1.82; no allocator and no standard library.
+//! call holds here; docs/CONVERSION.md says what is computed. Needs Rust 1.82; no allocator and no standard library.
 #![no_std]
 
 use core::fmt;
+
+/// The version of the header that this file follows, as one number: 10100 is 1.1.0.
+pub const VERSION: u32 = 10100;
+
+/// The version of the archive that the program is linked with.
+#[must_use]
+pub fn version() -> u32 {
+    ferghulta_version()
+}
 
 #[derive(Clone, Copy, Debug, PartialEq, Eq)]
 #[repr(u32)]
@@ -13,9 +22,10 @@ pub enum System {
     Bt2020Bits12 = 4,
 }
 
-/// Why a call was refused; as a u32 it is the document's number.
+/// Why a call was refused; as a u32 it is the refusal's number.
 #[derive(Clone, Copy, Debug, PartialEq, Eq)]
 #[repr(u32)]
+#[must_use]
 pub enum Refusal {
     System = 1,
     Width = 2,
@@ -52,11 +62,23 @@ const REFUSALS: [(Refusal, &str); 15] = [
     (Refusal::RowsMissing, "close with rows missing"),
 ];
 
-/// Writes the refusal's meaning.
+impl Refusal {
+    #[must_use]
+    pub fn number(self) -> u32 {
+        self as u32
+    }
+
+    /// The refusal in words, for people.
+    #[must_use]
+    pub fn text(self) -> &'static str {
+        listed(self.number()).1
+    }
+}
+
+/// Writes the refusal's text.
 impl fmt::Display for Refusal {
     fn fmt(&self, f: &mut fmt::Formatter) -> fmt::Result {
-        let (_, meaning) = listed(*self as u32);
-        f.write_str(meaning)
+        f.write_str(self.text())
     }
 }
 
@@ -144,6 +166,7 @@ impl<T> Answer<T> {
 // The safe ones take and give plain values and touch no memory.
 #[link(name = "ferghulta", kind = "static")]
 unsafe extern "C" {
+    safe fn ferghulta_version() -> u32;
     safe fn ferghulta_code_of_light(system: System, light: u16) -> Answer<u16>;
     safe fn ferghulta_span_of_code(system: System, code: u16) -> Answer<Span>;
     safe fn ferghulta_codes_of_signals(system: System, signals: Signals) -> Answer<Codes>;
@@ -160,7 +183,9 @@ unsafe extern "C" {
 impl System {
     pub const ALL: [System; 4] = [System::Bt709Bits8, System::Bt709Bits10, System::Bt2020Bits10, System::Bt2020Bits12];
 
-    /// Never refused: a `System` is one of the four, and every light has a code.
+    /// Never refused: a `System` is one of the four, and every light has a code. A single one costs as much as many
+    /// lights of a row.
+    #[must_use]
     pub fn code_of_light(self, light: u16) -> u16 {
         ferghulta_code_of_light(self, light).values
     }
@@ -195,6 +220,8 @@ pub fn read_block(bytes: &[u8], codes: &mut [u16]) -> Result<Block, Refusal> {
 }
 
 /// A picture, changed by its own calls alone; a refused call leaves it as it was.
+#[derive(Clone)]
+#[must_use]
 pub struct Picture(Kept);
 
 #[derive(Clone, Copy)]
@@ -230,8 +257,15 @@ impl Picture {
     }
 
     /// How many rows were accepted since open; 0 while it is not open.
+    #[must_use]
     pub fn rows(&self) -> u16 {
         self.0.rows
+    }
+
+    /// A copy whose next row is number `rows`, so that several threads may send the rows of one picture; with the height
+    /// as `rows` it can be closed. That every row was sent is then for the caller to know.
+    pub fn with_rows(&self, rows: u16) -> Picture {
+        Picture(Kept { rows, ..self.0 })
     }
 
     fn become_next(&mut self, answer: Answer<Kept>) -> Result<(), Refusal> {

@@ -12,22 +12,9 @@ static uint16_t lights[LIGHTS];
 static uint8_t block[FERGHULTA_BLOCK_BYTES(WIDTH)];
 static uint16_t codes[LIGHTS];
 
-static const char *meaning(uint32_t refusal) {
-    switch (refusal) {
-    case FERGHULTA_REFUSED_WIDTH: return "width not 1 to 7680";
-    case FERGHULTA_REFUSED_LIGHTS: return "lights not 3 * width";
-    case FERGHULTA_REFUSED_OUTPUT: return "lent output too short";
-    case FERGHULTA_REFUSED_CODE: return "code or word outside nominal";
-    case FERGHULTA_REFUSED_BLOCK_END: return "block ends too early";
-    case FERGHULTA_REFUSED_NOT_OPEN: return "row or close while not open";
-    case FERGHULTA_REFUSED_ROWS_MISSING: return "close with rows missing";
-    default: return "see enum ferghulta_refusal";
-    }
-}
-
 static void must_accept(uint32_t refusal) {
     if (refusal == FERGHULTA_ACCEPTED) return;
-    fprintf(stderr, "refused %u: %s\n", (unsigned)refusal, meaning(refusal));
+    fprintf(stderr, "refused %u: %s\n", (unsigned)refusal, ferghulta_refusal_text(refusal));
     exit(EXIT_FAILURE);
 }
 
@@ -60,22 +47,17 @@ static int worst_distance(uint32_t system, int worst) {
     return worst;
 }
 
-/* The library keeps nothing between calls: the picture is a value of ours. A call is given it and answers with the
- * picture for the next call, so after each one stands `picture = answer.picture`. */
+/* The library keeps nothing between calls: the picture is a value of ours, which the calls that end in `_of` change in
+ * place where they are accepted. */
 static void send_and_read(uint32_t system, const char *name) {
     unsigned blocks = 0, clipped = 0;
     int worst = 0;
 
     ferghulta_picture picture = ferghulta_new();
-    ferghulta_picture_answer answer = ferghulta_open(picture, system, WIDTH, HEIGHT);
-    must_accept(answer.refusal);
-    picture = answer.picture;
-
+    must_accept(ferghulta_open_of(&picture, system, WIDTH, HEIGHT));
     while (picture.rows < picture.height) {
         (picture.rows % 2 == 0 ? ramp : random_light)(picture.rows);
-        answer = ferghulta_row(picture, lights, LIGHTS, block, sizeof block);
-        must_accept(answer.refusal);
-        picture = answer.picture;
+        must_accept(ferghulta_row_of(&picture, lights, LIGHTS, block, sizeof block));
 
         ferghulta_block_answer read = ferghulta_read_block(block, sizeof block, codes, LIGHTS);
         must_accept(read.refusal);
@@ -83,25 +65,26 @@ static void send_and_read(uint32_t system, const char *name) {
         clipped += read.clipped;
         worst = worst_distance(system, worst);
     }
+    const unsigned rows = picture.rows;
+    must_accept(ferghulta_close_of(&picture));
 
-    must_accept(ferghulta_close(picture).refusal);
-    printf("%-16s %9u %11u %14d %7u\n", name, (unsigned)picture.rows, blocks, worst, clipped);
+    printf("%-16s %9u %11u %14d %7u\n", name, rows, blocks, worst, clipped);
 }
 
 static void show(const char *call, uint32_t refusal) {
-    printf("%-32s %2u  %s\n", call, (unsigned)refusal, meaning(refusal));
+    printf("%-32s %2u  %s\n", call, (unsigned)refusal, ferghulta_refusal_text(refusal));
 }
 
-/* A refused call changes nothing: the next call is given the same picture. */
+/* A refused call changes nothing: the picture goes on as it was. */
 static void refusals(void) {
     ferghulta_picture picture = ferghulta_new();
-    show("a row before open", ferghulta_row(picture, lights, LIGHTS, block, sizeof block).refusal);
-    show("open with width 7681", ferghulta_open(picture, FERGHULTA_BT709_8, 7681, 2).refusal);
-    picture = ferghulta_open(picture, FERGHULTA_BT709_8, WIDTH, 2).picture;
-    show("a row that is one light short", ferghulta_row(picture, lights, LIGHTS - 1, block, sizeof block).refusal);
-    show("a buffer that is one byte short", ferghulta_row(picture, lights, LIGHTS, block, sizeof block - 1).refusal);
-    picture = ferghulta_row(picture, lights, LIGHTS, block, sizeof block).picture;
-    show("close after one row of two", ferghulta_close(picture).refusal);
+    show("a row before open", ferghulta_row_of(&picture, lights, LIGHTS, block, sizeof block));
+    show("open with width 7681", ferghulta_open_of(&picture, FERGHULTA_BT709_8, 7681, 2));
+    must_accept(ferghulta_open_of(&picture, FERGHULTA_BT709_8, WIDTH, 2));
+    show("a row that is one light short", ferghulta_row_of(&picture, lights, LIGHTS - 1, block, sizeof block));
+    show("a buffer that is one byte short", ferghulta_row_of(&picture, lights, LIGHTS, block, sizeof block - 1));
+    must_accept(ferghulta_row_of(&picture, lights, LIGHTS, block, sizeof block));
+    show("close after one row of two", ferghulta_close_of(&picture));
     show("a block without its last byte", ferghulta_read_block(block, sizeof block - 1, codes, LIGHTS).refusal);
     block[5] = 255; /* the first Y' word, after system, row number and count, becomes a timing code */
     show("a block with a timing code", ferghulta_read_block(block, sizeof block, codes, LIGHTS).refusal);

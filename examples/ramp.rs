@@ -1,5 +1,5 @@
 //! examples/ramp.c in Rust: the same calls, the same lines. `make example-rust` runs it and compares the two.
-use ferghulta::{read_block, Picture, Refusal, System};
+use ferghulta::{read_block, version, Picture, Refusal, System, VERSION};
 
 const WIDTH: usize = 1920;
 const HEIGHT: usize = 32;
@@ -58,7 +58,7 @@ fn send_and_read(system: System, name: &str) -> Result<(), Refusal> {
 fn show<T>(call: &str, result: Result<T, Refusal>) {
     match result {
         Ok(_) => println!("{call:<32}  0  accepted"),
-        Err(refusal) => println!("{call:<32} {:>2}  {refusal}", refusal as u32),
+        Err(refusal) => println!("{call:<32} {:>2}  {refusal}", refusal.number()),
     }
 }
 
@@ -84,6 +84,7 @@ fn refusals() -> Result<(), Refusal> {
 }
 
 fn main() -> Result<(), Refusal> {
+    assert_eq!(version(), VERSION, "the archive is of another version than examples/ferghulta.rs");
     let names = ["BT.709 8 bits", "BT.709 10 bits", "BT.2020 10 bits", "BT.2020 12 bits"];
     println!("pictures of {WIDTH} x {HEIGHT}; distance in codes\n");
     println!("{:<16} {:>9} {:>11} {:>14} {:>7}", "system", "rows sent", "blocks read", "worst distance", "clipped");

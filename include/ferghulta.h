@@ -1,34 +1,65 @@
 /* Ferghulta: rows of linear light become Y'CbCr words of BT.709 and BT.2020 in 4:4:4, in row blocks, and blocks are
- * read back. The archive is for x86-64 Linux and calls nothing else, not even the C library.
+ * read back. The source's docs/CONVERSION.md says what is computed. The archive is for x86-64 Linux and calls nothing
+ * else, not even the C library; this header is C89 with <stdint.h>, and C++98, or later.
  *
  * Every call is proved to give the answer that the definitions in crates/ have for its arguments, whatever they are. No
  * call keeps a pointer, allocates, or reads or writes anything but its arguments and the memory that it is lent; none
  * has a state of its own, so calls may run at once in several threads.
  *
- * What a caller owes: a pointer and a count are of memory that is lent for the call, with nothing else writing it, and
- * memory that is written is shared with no other argument. Words are aligned as C aligns them; bytes may begin anywhere.
- * A pointer with a count of 0 must not be null either, and is not followed. The calls with lights use up to 40 KB of
- * stack. The calls on signals need floating point as a C program starts with it: rounding to nearest, subnormals kept
- * (a program linked with -ffast-math drops them, and a signal just below 0 would pass for 0).
+ * What a caller owes:
+ * - A pointer and a count are of memory that is lent for the call, with nothing else writing it. Words are aligned as C
+ *   aligns them; bytes may begin anywhere.
+ * - Memory that is written overlaps no other argument: where it does, wrong bytes are written and nothing tells.
+ * - A pointer is never null, with a count of 0 neither; with a count of 0 any other pointer will do, and is not
+ *   followed. (gcc and clang warn of a null that they see, and -fsanitize=undefined finds the others.)
+ * - The calls with lights need up to 40 KB of stack.
+ * - The calls on signals need floating point as a C program starts with it: rounding to nearest, subnormals kept (a
+ *   program linked with -ffast-math drops them, and a signal just below 0 would pass for 0).
  *
  * An answer has a field `refusal`: 0 where the call was accepted, else the number of the refusal. Then the answer's
- * other numbers are 0, lent memory is as it was, and a picture comes back as it was given.
+ * other numbers are 0, lent memory is as it was, and a picture comes back as it was given. Compilers warn where an
+ * answer is dropped: a picture that is dropped after a row gives the next row the same number, and only close tells.
  */
 #ifndef FERGHULTA_H
 #define FERGHULTA_H
 
-#include <assert.h>
 #include <stddef.h>
 #include <stdint.h>
 
 #define FERGHULTA_VERSION_MAJOR 1
-#define FERGHULTA_VERSION_MINOR 0
+#define FERGHULTA_VERSION_MINOR 1
 #define FERGHULTA_VERSION_PATCH 0
-#define FERGHULTA_VERSION "1.0.0"
+#define FERGHULTA_VERSION "1.1.0"
+
+/* The version as one number to compare, in #if too: 10100 is 1.1.0. CHANGELOG.md says what a version promises. */
+#define FERGHULTA_VERSION_NUMBER                                                                                       \
+    (10000 * FERGHULTA_VERSION_MAJOR + 100 * FERGHULTA_VERSION_MINOR + FERGHULTA_VERSION_PATCH)
+
+/* What compilers are told beside the types. `__restrict` and `__inline` are spelt so for C89 and C++. */
+#if (defined(__STDC_VERSION__) && __STDC_VERSION__ > 201710L) || (defined(__cplusplus) && __cplusplus >= 201703L)
+#define FERGHULTA_MUST_USE [[nodiscard]]
+#elif defined(__GNUC__)
+#define FERGHULTA_MUST_USE __attribute__((warn_unused_result))
+#else
+#define FERGHULTA_MUST_USE
+#endif
+#if defined(__GNUC__)
+#define FERGHULTA_NONNULL __attribute__((nonnull))
+#else
+#define FERGHULTA_NONNULL
+#endif
+#ifdef __cplusplus
+#define FERGHULTA_SIZE(n) static_cast<size_t>(n)
+#else
+#define FERGHULTA_SIZE(n) ((size_t)(n))
+#endif
 
 #ifdef __cplusplus
 extern "C" {
 #endif
+
+/* The version of the archive: FERGHULTA_VERSION_NUMBER, where the program is linked with the archive of this header. */
+FERGHULTA_MUST_USE uint32_t ferghulta_version(void);
 
 /* A system is a matrix and a bit depth n; its scale s is 2^(n - 8). Nominal R', G', B' and Y' run from 16s to 235s,
  * nominal Cb and Cr from 16s to 240s. Calls take the system as a uint32_t and refuse any other number. */
@@ -60,7 +91,31 @@ enum ferghulta_refusal {
     FERGHULTA_REFUSED_ROWS_MISSING = 24  /* close with rows missing */
 };
 
-/* ---- Light and code. A light k, 0 to 65535, means the linear light k / 65535. */
+/* The same in words, for people; programs compare the number. */
+FERGHULTA_MUST_USE static __inline const char *ferghulta_refusal_text(uint32_t refusal) {
+    switch (refusal) {
+    case FERGHULTA_ACCEPTED: return "accepted";
+    case FERGHULTA_REFUSED_SYSTEM: return "system not 1 to 4";
+    case FERGHULTA_REFUSED_WIDTH: return "width not 1 to 7680";
+    case FERGHULTA_REFUSED_HEIGHT: return "height not 1 to 4320";
+    case FERGHULTA_REFUSED_LIGHTS: return "lights not 3 * width";
+    case FERGHULTA_REFUSED_OUTPUT: return "lent output too short";
+    case FERGHULTA_REFUSED_CODE: return "code or word outside nominal";
+    case FERGHULTA_REFUSED_SIGNAL: return "signal below 0, above 1, or not a number";
+    case FERGHULTA_REFUSED_BLOCK_END: return "block ends too early";
+    case FERGHULTA_REFUSED_COUNT: return "count 0, above 7680, or unlike the Y' count";
+    case FERGHULTA_REFUSED_ROW_NUMBER: return "block's row number above 4319";
+    case FERGHULTA_REFUSED_BYTES_AFTER: return "bytes after the Cr section";
+    case FERGHULTA_REFUSED_ALREADY_OPEN: return "open while open";
+    case FERGHULTA_REFUSED_NOT_OPEN: return "row or close while not open";
+    case FERGHULTA_REFUSED_ALL_ROWS: return "row when all rows are accepted";
+    case FERGHULTA_REFUSED_ROWS_MISSING: return "close with rows missing";
+    default: return "not a refusal of this version";
+    }
+}
+
+/* ---- Light and code. A light k, 0 to 65535, means the linear light k / 65535. A call makes its depth's table anew, so
+ * that one of these costs as much as about 15, 50 and 270 lights of a row at 8, 10 and 12 bits: send rows as rows. */
 
 typedef struct ferghulta_code_answer {
     uint32_t refusal;
@@ -68,7 +123,7 @@ typedef struct ferghulta_code_answer {
 } ferghulta_code_answer;
 
 /* The R', G' or B' code of a light. Refused: 1. */
-ferghulta_code_answer ferghulta_code_of_light(uint32_t system, uint16_t light);
+FERGHULTA_MUST_USE ferghulta_code_answer ferghulta_code_of_light(uint32_t system, uint16_t light);
 
 /* The lights from least to greatest, both included. */
 typedef struct ferghulta_span {
@@ -81,7 +136,7 @@ typedef struct ferghulta_span_answer {
 } ferghulta_span_answer;
 
 /* The lights of a nominal R', G' or B' code; each code has at least one. Refused: 1, 6. */
-ferghulta_span_answer ferghulta_span_of_code(uint32_t system, uint16_t code);
+FERGHULTA_MUST_USE ferghulta_span_answer ferghulta_span_of_code(uint32_t system, uint16_t code);
 
 /* ---- Triples: the signals E' (0 to 1), the codes or the words of one sample. */
 
@@ -103,7 +158,7 @@ typedef struct ferghulta_codes_answer {
 } ferghulta_codes_answer;
 
 /* The codes of three signals, each of its exact value; negative zero is zero. Refused: 1, 7. */
-ferghulta_codes_answer ferghulta_codes_of_signals(uint32_t system, ferghulta_signals signals);
+FERGHULTA_MUST_USE ferghulta_codes_answer ferghulta_codes_of_signals(uint32_t system, ferghulta_signals signals);
 
 typedef struct ferghulta_signals_answer {
     uint32_t refusal;
@@ -111,7 +166,7 @@ typedef struct ferghulta_signals_answer {
 } ferghulta_signals_answer;
 
 /* The floats nearest to the signals of three nominal codes; they quantise to these codes again. Refused: 1, 6. */
-ferghulta_signals_answer ferghulta_signals_of_codes(uint32_t system, ferghulta_codes codes);
+FERGHULTA_MUST_USE ferghulta_signals_answer ferghulta_signals_of_codes(uint32_t system, ferghulta_codes codes);
 
 typedef struct ferghulta_words_answer {
     uint32_t refusal;
@@ -119,7 +174,7 @@ typedef struct ferghulta_words_answer {
 } ferghulta_words_answer;
 
 /* Y', Cb and Cr of nominal R', G', B' codes. Refused: 1, 6. */
-ferghulta_words_answer ferghulta_words_of_codes(uint32_t system, ferghulta_codes codes);
+FERGHULTA_MUST_USE ferghulta_words_answer ferghulta_words_of_codes(uint32_t system, ferghulta_codes codes);
 
 typedef struct ferghulta_decoded_answer {
     uint32_t refusal;
@@ -128,7 +183,7 @@ typedef struct ferghulta_decoded_answer {
 } ferghulta_decoded_answer;
 
 /* R', G' and B' of nominal words. Refused: 1, 6. */
-ferghulta_decoded_answer ferghulta_codes_of_words(uint32_t system, ferghulta_words words);
+FERGHULTA_MUST_USE ferghulta_decoded_answer ferghulta_codes_of_words(uint32_t system, ferghulta_words words);
 
 /* ---- Row blocks: system (1 byte), row number (2), then Y', Cb and Cr, each a count (2) and that many words (2 each);
  * all unsigned, low byte first. */
@@ -137,8 +192,8 @@ ferghulta_decoded_answer ferghulta_codes_of_words(uint32_t system, ferghulta_wor
 #define FERGHULTA_MOST_ROWS 4320
 
 /* The bytes of the block of a row of `width` samples, and how many lights or codes such a row has. */
-#define FERGHULTA_BLOCK_BYTES(width) (9 + 6 * (size_t)(width))
-#define FERGHULTA_ROW_CODES(width) (3 * (size_t)(width))
+#define FERGHULTA_BLOCK_BYTES(width) (9 + 6 * FERGHULTA_SIZE(width))
+#define FERGHULTA_ROW_CODES(width) (3 * FERGHULTA_SIZE(width))
 
 typedef struct ferghulta_block_answer {
     uint32_t refusal;
@@ -150,17 +205,22 @@ typedef struct ferghulta_block_answer {
 /* Reads the one block that the `length` bytes are: R, G, B of each sample go to the front of `codes`, which has room
  * for `places` codes; what lies beyond stays. Refused, from the front: 8 (fewer than 3 bytes), 1, 10; at each section
  * 8 (count missing), 9, 8 (words missing); then 11, 6, 5 (places below 3 * samples). */
-ferghulta_block_answer ferghulta_read_block(const uint8_t *bytes, size_t length, uint16_t *codes, size_t places);
+FERGHULTA_MUST_USE FERGHULTA_NONNULL ferghulta_block_answer
+ferghulta_read_block(const uint8_t *__restrict bytes, size_t length, uint16_t *__restrict codes, size_t places);
 
 /* ---- Pictures. */
 
 enum ferghulta_phase { FERGHULTA_FRESH = 0, FERGHULTA_OPEN = 1, FERGHULTA_CLOSED = 2 };
 
 /* A picture in eight bytes, which the caller keeps: a call is given it and answers with the picture that the next call
- * is to be given. Read its fields freely, and let the calls alone change them. While it is not open they are 0 but for
- * the phase, so all zero is a fresh picture; of a picture that is not open the calls read the phase alone. A value that
- * no call gives (another phase, or open with a number out of its range or with more rows than its height) is not open:
- * it is taken as fresh. */
+ * is to be given. Read its fields freely, and let the calls change them, but for `rows` (below). While it is not open
+ * they are 0 but for the phase, so all zero is a fresh picture; of a picture that is not open the calls read the phase
+ * alone. A value that no call gives (another phase, or open with a number out of its range or with more rows than its
+ * height) is not open: it is taken as fresh.
+ *
+ * Rows in parallel: a picture is a value, so each thread may have its own copy of an open one, set `rows` to the number
+ * of the row that it sends next, and send it. Who joins the threads sets `rows` to the height and closes; that every
+ * row was sent is then for the caller to know. */
 typedef struct ferghulta_picture {
     uint8_t phase, system;
     uint16_t width, height, rows; /* rows: how many were accepted since open */
@@ -172,36 +232,62 @@ typedef struct ferghulta_picture_answer {
 } ferghulta_picture_answer;
 
 /* A fresh picture. */
-ferghulta_picture ferghulta_new(void);
+FERGHULTA_MUST_USE ferghulta_picture ferghulta_new(void);
 
 /* Opens a fresh or closed picture; no row is accepted yet. Refused: 21, then 1, 2, 3. */
-ferghulta_picture_answer ferghulta_open(ferghulta_picture picture, uint32_t system, uint32_t width, uint32_t height);
+FERGHULTA_MUST_USE ferghulta_picture_answer
+ferghulta_open(ferghulta_picture picture, uint32_t system, uint32_t width, uint32_t height);
 
 /* Takes a row of `count` lights, R, G, B of each sample, and writes its block, numbered by the rows accepted before, to
  * the front of `out`, which has `room` bytes; what lies beyond stays. Refused: 22, 23, then 4 (count not 3 * width),
  * 5 (room below 9 + 6 * width). */
-ferghulta_picture_answer ferghulta_row(ferghulta_picture picture, const uint16_t *lights, size_t count, uint8_t *out,
-                                       size_t room);
+FERGHULTA_MUST_USE FERGHULTA_NONNULL ferghulta_picture_answer
+ferghulta_row(ferghulta_picture picture, const uint16_t *__restrict lights, size_t count, uint8_t *__restrict out,
+              size_t room);
 
 /* Closes an open picture whose every row is accepted. Refused: 22, then 24. */
-ferghulta_picture_answer ferghulta_close(ferghulta_picture picture);
+FERGHULTA_MUST_USE ferghulta_picture_answer ferghulta_close(ferghulta_picture picture);
+
+/* ---- The same three on a picture in place, which is changed where the call is accepted. They return the refusal. */
+
+FERGHULTA_MUST_USE FERGHULTA_NONNULL static __inline uint32_t
+ferghulta_open_of(ferghulta_picture *picture, uint32_t system, uint32_t width, uint32_t height) {
+    const ferghulta_picture_answer answer = ferghulta_open(*picture, system, width, height);
+    *picture = answer.picture;
+    return answer.refusal;
+}
+
+FERGHULTA_MUST_USE FERGHULTA_NONNULL static __inline uint32_t
+ferghulta_row_of(ferghulta_picture *__restrict picture, const uint16_t *__restrict lights, size_t count,
+                 uint8_t *__restrict out, size_t room) {
+    const ferghulta_picture_answer answer = ferghulta_row(*picture, lights, count, out, room);
+    *picture = answer.picture;
+    return answer.refusal;
+}
+
+FERGHULTA_MUST_USE FERGHULTA_NONNULL static __inline uint32_t ferghulta_close_of(ferghulta_picture *picture) {
+    const ferghulta_picture_answer answer = ferghulta_close(*picture);
+    *picture = answer.picture;
+    return answer.refusal;
+}
 
 #ifdef __cplusplus
 }
 #endif
 
-/* The layout that the archive has; this fails where structs are packed. Where an answer is 2 bytes longer than its
- * fields, those come last and have no value: compare answers field by field. */
-#if (defined(__STDC_VERSION__) && __STDC_VERSION__ >= 201112L) || (defined(__cplusplus) && __cplusplus >= 201103L)
-static_assert(sizeof(ferghulta_code_answer) == 8, "4 + 2 + 2");
-static_assert(sizeof(ferghulta_span_answer) == 8, "4 + 4");
-static_assert(sizeof(ferghulta_codes_answer) == 12, "4 + 6 + 2");
-static_assert(sizeof(ferghulta_words_answer) == 12, "4 + 6 + 2");
-static_assert(sizeof(ferghulta_signals_answer) == 16, "4 + 12");
-static_assert(sizeof(ferghulta_decoded_answer) == 16, "4 + 4 + 6 + 2");
-static_assert(sizeof(ferghulta_block_answer) == 16, "4 + 4 + 4 + 4");
-static_assert(sizeof(ferghulta_picture) == 8, "2 + 6");
-static_assert(sizeof(ferghulta_picture_answer) == 12, "4 + 8");
-#endif
+/* The layout that the archive has, in a form that C89 and C++98 know: the array's length is -1 where it is another one,
+ * as with packed structs. Where an answer is 2 bytes longer than its fields, those come last and have no value: compare
+ * answers field by field. */
+#define FERGHULTA_LAYOUT(type, bytes) typedef char type##_has_##bytes##_bytes[sizeof(type) == (bytes) ? 1 : -1]
+FERGHULTA_LAYOUT(ferghulta_code_answer, 8);      /* 4 + 2 + 2 */
+FERGHULTA_LAYOUT(ferghulta_span_answer, 8);      /* 4 + 4 */
+FERGHULTA_LAYOUT(ferghulta_codes_answer, 12);    /* 4 + 6 + 2 */
+FERGHULTA_LAYOUT(ferghulta_words_answer, 12);    /* 4 + 6 + 2 */
+FERGHULTA_LAYOUT(ferghulta_signals_answer, 16);  /* 4 + 12 */
+FERGHULTA_LAYOUT(ferghulta_decoded_answer, 16);  /* 4 + 4 + 6 + 2 */
+FERGHULTA_LAYOUT(ferghulta_block_answer, 16);    /* 4 + 4 + 4 + 4 */
+FERGHULTA_LAYOUT(ferghulta_picture, 8);          /* 2 + 6 */
+FERGHULTA_LAYOUT(ferghulta_picture_answer, 12);  /* 4 + 8 */
+#undef FERGHULTA_LAYOUT
 
 #endif

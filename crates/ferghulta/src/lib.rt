@@ -2,3 +2,4 @@
 mod calls;
 mod picture_calls;
 mod stored_picture;
+mod version;

@@ -1,4 +1,5 @@
--- The four systems and their constants (document 01, 'Four systems'), and the weights (document 01, 'Triples').
+-- The four systems and their constants (document 01, 'Four systems'), and the weights (document 01, 'Triples'). docs/CONVERSION.md
+-- retells document 01.
 -- Definitions only.
 use Prim.Native.Nat.{ℕ, _*_, _-_, _^_}
 use mathlib.Core.Bool.{Bool, true, false, _&&_, _||_}

@@ -1,0 +1,39 @@
+/* What the header must refuse, one mistake for each value of MISUSE; with 0 there is none. `make check-header` compiles
+ * all of them, warnings being errors. */
+#if MISUSE == 1
+#pragma pack(1) /* structs that are not laid out as the archive's */
+#endif
+#include "ferghulta.h"
+
+static uint16_t words[3];
+static uint8_t bytes[FERGHULTA_BLOCK_BYTES(1)];
+
+ferghulta_picture sent(ferghulta_picture picture);
+uint32_t sent_of(ferghulta_picture *picture);
+uint32_t block_read(void);
+
+ferghulta_picture sent(ferghulta_picture picture) {
+#if MISUSE == 2
+    ferghulta_row(picture, words, 3, bytes, sizeof bytes); /* the next picture is dropped */
+#else
+    picture = ferghulta_row(picture, words, 3, bytes, sizeof bytes).picture;
+#endif
+    return picture;
+}
+
+uint32_t sent_of(ferghulta_picture *picture) {
+#if MISUSE == 3
+    ferghulta_row_of(picture, words, 3, bytes, sizeof bytes); /* the refusal is dropped */
+#elif MISUSE == 4
+    if (ferghulta_row_of(picture, 0, 0, bytes, sizeof bytes)) return 1; /* null with a count of 0 */
+#endif
+    return ferghulta_close_of(picture);
+}
+
+uint32_t block_read(void) {
+#if MISUSE == 5
+    return ferghulta_read_block(bytes, 0, 0, 0).refusal; /* null with a count of 0 */
+#else
+    return ferghulta_read_block(bytes, sizeof bytes, words, 3).refusal;
+#endif
+}

@@ -64,7 +64,7 @@ const DIFFERENCE_STEPS: i64 = (Range::DIFFERENCE_PEAK - Range::BLACK) as i64;
 // Words and codes are summed in fixed point: UNIT is one of them, and a shift by the fraction bits rounds it down, also below 0.
 const FRACTION_BITS: u32 = 49;
 
-const UNIT: i64 = 1 << 49;
+const UNIT: i64 = 1 << FRACTION_BITS;
 
 // UNIT is their product.
 const HIGH_PART: u64 = 1 << 25;

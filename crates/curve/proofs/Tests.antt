@@ -1,99 +1,96 @@
--- What the tests of a table's and an index's entries show, by the curve's rule at the entry and at its neighbour.
+-- What the tests of a table's and an index's entries show, by the quantiser's rule at the entry and at its neighbour.
 -- Assumes nothing.
 use mathlib.Core.Path.{_≡_}
 use mathlib.Core.Bool.{Bool, not, _&&_, _||_}
-use mathlib.Core.Logic.{_⊎_, inl, inr}
+use mathlib.Core.Logic.{_⊎_, inl, inr, _↔_}
 use mathlib.Core.List.{List}
-use Prim.Native.Nat.{ℕ, suc, _+_, _*_, _-_, _^_, _≤_, _<_}
+use Prim.Native.Nat.{ℕ, suc, _+_, _*_, _-_, _/_, _^_, _≤_, _<_}
+use native.Mathlib.Nat.{lt-div-mul-add, div-mul-le-self, div-lt-iff-lt-mul}
 use native.Mathlib.Omega.{arith}
 use lib.Dec.{T, T-not, leb, ltb, eqb, leb→le, ltb→lt, eqb→eq}
+use lib.Pow.{pow-pos}
 use lib.ListN.{length, getD}
 use Rattle.exact.proofs.Boolean.{all-three, one-of-two}
 use Rattle.exact.proofs.Order.{below-or-not}
 use Rattle.exact.proofs.Table.{every, at-entry}
-use Rattle.systems.specs.declared.System.{System}
-use Rattle.systems.specs.declared.System.the-variants.{Bt709Bits10, Bt2020Bits10}
-use Rattle.systems.specs.Systems.{scale}
-use Rattle.curve.specs.Curve.{code}
-use Rattle.curve.specs.Inner.{Boundaries, Index, Ready}
-use Rattle.curve.proofs.Lights.{reached, code-low, code-high, codes-rise, code-reaches}
+use Rattle.curve.specs.Inner.{Quantiser, Boundaries, Index, Ready}
 
--- entry j of the table, t, has the code 16s + j + 1 or more, and the light before it has less
-unfoldable pub boundary : System → ℕ → ℕ → Bool
-boundary y j t = ltb 0 t && (reached y t (suc j) && not (reached y (t - 1) (suc j)))
+-- the codes are the quantiser's and rise, and `reached k d` tests that light k has the first code + d or more
+pub record Rule (q : Quantiser) (reached : ℕ → ℕ → Bool) : Type 0 where
+  pub low : (k : ℕ) → q .first ≤ q .code k
+  pub high : (k : ℕ) → q .code k ≤ q .first + q .above
+  pub rises : (k l : ℕ) → k ≤ l → q .code k ≤ q .code l
+  pub tests : (k d : ℕ) → 0 < d → d ≤ q .above → (q .first + d ≤ q .code k) ↔ T (reached k d)
 
--- entry i of the index, n: the first light of the bucket has at least 16s + n, the last one less than 16s + n + 3
-unfoldable pub bucket : System → ℕ → ℕ → ℕ → Bool
-bucket y h i n = leb (n + 2) (219 * scale y) && ((eqb n 0 || reached y (i * 2 ^ h) n)
-    && (eqb (n + 2) (219 * scale y) || not (reached y (suc i * 2 ^ h - 1) (n + 3))))
+-- entry j of the table, t, has the first code + j + 1 or more, and the light before it has less
+unfoldable pub boundary : (ℕ → ℕ → Bool) → ℕ → ℕ → Bool
+boundary reached j t = ltb 0 t && (reached t (suc j) && not (reached (t - 1) (suc j)))
 
-module _ (y : System) where
-  reached-code : (k d : ℕ) → 0 < d → d ≤ 219 * scale y → T (reached y k d) → 16 * scale y + d ≤ code y k
-  reached-code k d p q t = code-reaches y k d p q .1 t
+-- entry i of the index, n: the first light of the bucket has at least the first code + n, the last one less than the first + n + 3
+unfoldable pub bucket : (ℕ → ℕ → Bool) → ℕ → ℕ → ℕ → ℕ → Bool
+bucket reached above h i n = leb (n + 2) above && ((eqb n 0 || reached (i * 2 ^ h) n) && (eqb (n + 2) above || not (reached (suc i * 2 ^ h - 1) (n + 3))))
 
-  unreached-code : (k d : ℕ) → 0 < d → d ≤ 219 * scale y → T (not (reached y k d)) → code y k < 16 * scale y + d
-  unreached-code k d p q t = go (below-or-not (code y k) (16 * scale y + d))
+module _ (q : Quantiser) (reached : ℕ → ℕ → Bool) (rule : Rule q reached) where
+  -- a test that fails says that the code is less
+  pub unreached : (k d : ℕ) → 0 < d → d ≤ q .above → T (not (reached k d)) → q .code k < q .first + d
+  unreached k d p m t = go (below-or-not (q .code k) (q .first + d))
     where
-      go : (code y k < 16 * scale y + d) ⊎ (16 * scale y + d ≤ code y k) → code y k < 16 * scale y + d
+      go : (q .code k < q .first + d) ⊎ (q .first + d ≤ q .code k) → q .code k < q .first + d
       go (inl l) = l
-      go (inr l) = absurd (T-not (reached y k d) t (code-reaches y k d p q .0 l))
+      go (inr l) = absurd (T-not (reached k d) t (rule .tests k d p m .0 l))
 
-  pub boundaries : (t : List ℕ) → length t ≡ 219 * scale y → T (every (boundary y) 0 t) → Boundaries y t
+  boundaries : (t : List ℕ) → length t ≡ q .above → T (every (boundary reached) 0 t) → Boundaries q t
   unfolding boundary
   boundaries t size p = record {
     size = size;
-    from = λ j k h l. omega (arith, codes-rise y (getD t j 0) k l, reached-code (getD t j 0) (suc j) (omega arith) (omega arith) (at j h .1));
-    before = λ j k h l. omega (arith, codes-rise y k (getD t j 0 - 1) (omega (arith, ltb→lt 0 (getD t j 0) (at j h .0))), unreached-code (getD t j 0 - 1) (suc j) (omega arith) (omega arith) (at j h .2));
+    from = λ j k h l. omega (arith, rule .rises (getD t j 0) k l, rule .tests (getD t j 0) (suc j) (omega arith) (omega arith) .1 (at j h .1));
+    before = λ j k h l. omega (arith, rule .rises k (getD t j 0 - 1) (omega (arith, ltb→lt 0 (getD t j 0) (at j h .0))), unreached (getD t j 0 - 1) (suc j) (omega arith) (omega arith) (at j h .2));
   }
     where
-      at : (j : ℕ) → j < length t → T (ltb 0 (getD t j 0)) × T (reached y (getD t j 0) (suc j)) × T (not (reached y (getD t j 0 - 1) (suc j)))
-      at j h = all-three (ltb 0 (getD t j 0)) (reached y (getD t j 0) (suc j)) (not (reached y (getD t j 0 - 1) (suc j))) (at-entry (boundary y) t p j h)
+      at : (j : ℕ) → j < length t → T (ltb 0 (getD t j 0)) × T (reached (getD t j 0) (suc j)) × T (not (reached (getD t j 0 - 1) (suc j)))
+      at j h = all-three (ltb 0 (getD t j 0)) (reached (getD t j 0) (suc j)) (not (reached (getD t j 0 - 1) (suc j))) (at-entry (boundary reached) t p j h)
 
-  pub index : (h : ℕ) (x : List ℕ) → length x * 2 ^ h ≡ 65536 → T (every (bucket y h) 0 x) → Index y h x
-  unfolding bucket
-  index h x size p = record { size = size; room = room; from = λ i l. from i l (one-of-two (first i) _ (at i l .1)); to = λ i l. to i l (one-of-two (last i) _ (at i l .2)) }
-    where
-      first : ℕ → Bool
-      first i = eqb (getD x i 0) 0
+  module _ (h : ℕ) (x : List ℕ) (size : q .full < length x * 2 ^ h) (p : T (every (bucket reached (q .above) h) 0 x)) where
+    -- the tests of the bucket i
+    module _ (i : ℕ) (l : i < length x) where
+      abbrev n : ℕ
+      n = getD x i 0
 
-      last : ℕ → Bool
-      last i = eqb (getD x i 0 + 2) (219 * scale y)
+      at : T (leb (n + 2) (q .above)) × T (eqb n 0 || reached (i * 2 ^ h) n) × T (eqb (n + 2) (q .above) || not (reached (suc i * 2 ^ h - 1) (n + 3)))
+      unfolding bucket
+      at = all-three (leb (n + 2) (q .above)) (eqb n 0 || reached (i * 2 ^ h) n) (eqb (n + 2) (q .above) || not (reached (suc i * 2 ^ h - 1) (n + 3))) (at-entry (bucket reached (q .above) h) x p i l)
 
-      at : (i : ℕ) → i < length x → T (leb (getD x i 0 + 2) (219 * scale y)) × T (first i || reached y (i * 2 ^ h) (getD x i 0))
-          × T (last i || not (reached y (suc i * 2 ^ h - 1) (getD x i 0 + 3)))
-      at i l = all-three (leb (getD x i 0 + 2) (219 * scale y)) (first i || reached y (i * 2 ^ h) (getD x i 0))
-          (last i || not (reached y (suc i * 2 ^ h - 1) (getD x i 0 + 3))) (at-entry (bucket y h) x p i l)
+      room : n + 2 ≤ q .above
+      room = leb→le _ _ (at .0)
 
-      room : (i : ℕ) → i < length x → getD x i 0 + 2 ≤ 219 * scale y
-      room i l = leb→le _ _ (at i l .0)
-
-      from : (i : ℕ) → i < length x → T (eqb (getD x i 0) 0) ⊎ T (reached y (i * 2 ^ h) (getD x i 0)) → 16 * scale y + getD x i 0 ≤ code y (i * 2 ^ h)
-      from i l (inl e) = omega (arith, eqb→eq (getD x i 0) 0 e, code-low y (i * 2 ^ h))
-      from i l (inr t) = go (below-or-not 0 (getD x i 0))
+      first-light : q .first + n ≤ q .code (i * 2 ^ h)
+      first-light = go (one-of-two (eqb n 0) _ (at .1)) (below-or-not 0 n)
         where
-          go : (0 < getD x i 0) ⊎ (getD x i 0 ≤ 0) → 16 * scale y + getD x i 0 ≤ code y (i * 2 ^ h)
-          go (inl z) = reached-code (i * 2 ^ h) (getD x i 0) z (omega (arith, room i l)) t
-          go (inr z) = omega (arith, code-low y (i * 2 ^ h))
+          go : T (eqb n 0) ⊎ T (reached (i * 2 ^ h) n) → (0 < n) ⊎ (n ≤ 0) → q .first + n ≤ q .code (i * 2 ^ h)
+          go (inl e) z = omega (arith, eqb→eq n 0 e, rule .low (i * 2 ^ h))
+          go (inr t) (inl z) = rule .tests (i * 2 ^ h) n z (omega (arith, room)) .1 t
+          go (inr t) (inr z) = omega (arith, rule .low (i * 2 ^ h))
 
-      to : (i : ℕ) → i < length x → T (eqb (getD x i 0 + 2) (219 * scale y)) ⊎ T (not (reached y (suc i * 2 ^ h - 1) (getD x i 0 + 3)))
-          → code y (suc i * 2 ^ h - 1) ≤ 16 * scale y + getD x i 0 + 2
-      to i l (inl e) = omega (arith, eqb→eq (getD x i 0 + 2) (219 * scale y) e, code-high y (suc i * 2 ^ h - 1))
-      to i l (inr t) = go (below-or-not (getD x i 0 + 2) (219 * scale y))
+      last-light : q .code (suc i * 2 ^ h - 1) ≤ q .first + n + 2
+      last-light = go (one-of-two (eqb (n + 2) (q .above)) _ (at .2)) (below-or-not (n + 2) (q .above))
         where
-          go : (getD x i 0 + 2 < 219 * scale y) ⊎ (219 * scale y ≤ getD x i 0 + 2) → code y (suc i * 2 ^ h - 1) ≤ 16 * scale y + getD x i 0 + 2
-          go (inl z) = omega (arith, unreached-code (suc i * 2 ^ h - 1) (getD x i 0 + 3) (omega arith) (omega arith) t)
-          go (inr z) = omega (arith, code-high y (suc i * 2 ^ h - 1))
+          go : T (eqb (n + 2) (q .above)) ⊎ T (not (reached (suc i * 2 ^ h - 1) (n + 3))) → (n + 2 < q .above) ⊎ (q .above ≤ n + 2) → q .code (suc i * 2 ^ h - 1) ≤ q .first + n + 2
+          go (inl e) z = omega (arith, eqb→eq (n + 2) (q .above) e, rule .high (suc i * 2 ^ h - 1))
+          go (inr t) (inl z) = omega (arith, unreached (suc i * 2 ^ h - 1) (n + 3) (omega arith) (omega arith) t)
+          go (inr t) (inr z) = omega (arith, rule .high (suc i * 2 ^ h - 1))
+
+    within : (k : ℕ) → k ≤ q .full → k / 2 ^ h < length x
+    within k l = div-lt-iff-lt-mul {k = 2 ^ h} {x = k} {y = length x} (pow-pos h) .1 (omega (arith, size))
+
+    index : Index q h x
+    index = record {
+      size = size;
+      room = room;
+      from = λ k l. omega (arith, first-light (k / 2 ^ h) (within k l), rule .rises (k / 2 ^ h * 2 ^ h) k (div-mul-le-self k (2 ^ h)));
+      to = λ k l. omega (arith, last-light (k / 2 ^ h) (within k l), rule .rises k (suc (k / 2 ^ h) * 2 ^ h - 1) (omega (arith, lt-div-mul-add {a = k} {b = 2 ^ h} (pow-pos h))));
+    }
 
 -- a table and its index that pass their tests are ready
-pub ready : (y : System) (h : ℕ) (t x : List ℕ) → h < 16 → length t ≡ 219 * scale y → T (every (boundary y) 0 t) → length x * 2 ^ h ≡ 65536 → T (every (bucket y h) 0 x)
-    → Ready y h t x
-ready y h t x shift st pt sx px = record { shift = shift; boundaries = boundaries y t st pt; index = index y h x sx px }
-
--- the two systems of 10 bits have one curve
-pub shared : {h : ℕ} {t x : List ℕ} → Ready Bt709Bits10 h t x → Ready Bt2020Bits10 h t x
-unfolding code
-shared r = record {
-  shift = r .shift;
-  boundaries = record { size = r .boundaries .size; from = r .boundaries .from; before = r .boundaries .before };
-  index = record { size = r .index .size; room = r .index .room; from = r .index .from; to = r .index .to };
-}
+pub ready : {q : Quantiser} {reached : ℕ → ℕ → Bool} → Rule q reached → (h : ℕ) (t x : List ℕ) → 2 ^ h ≤ q .full
+    → length t ≡ q .above → T (every (boundary reached) 0 t) → q .full < length x * 2 ^ h → T (every (bucket reached (q .above) h) 0 x) → Ready q h t x
+ready {q} {reached} rule h t x shift st pt sx px = record { shift = shift; boundaries = boundaries q reached rule t st pt; index = index q reached rule h x sx px }

@@ -12,7 +12,7 @@ ghost use Prim.Native.Nat.{_+_, _*_, _≤_};
 ghost use lib.ListN.{length, getD};
 ghost use Rattle.systems.specs.Systems.{scale};
 ghost use Rattle.curve.specs.Curve.{code};
-ghost use Rattle.curve.specs.Inner.{Boundaries};
+ghost use Rattle.curve.specs.Inner.{quantiserOf, Boundaries};
 ghost use Rattle.light.specs.Light.{codeOfLight, span, spanOfCode, toldCode, toldSpan};
 
 pub enum LightCode {
@@ -107,7 +107,7 @@ fn span_of(y: System, d: u16) -> Span
 
 // A span runs from the code's own boundary to the light before the next one.
 fn span_in(y: System, boundaries: &[u16], d: u16) -> Span
-    requires { ⌜ Boundaries y (now boundaries) × (16 * scale y ≤ d) × (d ≤ 235 * scale y) ⌝ }
+    requires { ⌜ Boundaries (quantiserOf y) (now boundaries) × (16 * scale y ≤ d) × (d ≤ 235 * scale y) ⌝ }
     ensures { λ r. ⌜ r ≡ span y d ⌝ }
 {
     let nominal = y.nominal();

@@ -6,9 +6,11 @@ use native.Mathlib.Nat.{div-le-self}
 use native.Mathlib.Omega.{arith}
 use borrow.Author.Needs.{needs}
 use denote.Ref.{now}
+use lib.Dec.{lit<}
 use lib.ListN.{length, getD}
 use Rattle.systems.proofs.Scales.{scale-range}
-use Rattle.curve.proofs.Lookup.{in-index, in-table, found}
+use Rattle.curve.specs.Curve.{fullLight}
+use Rattle.curve.proofs.Lookup.{shift-small, in-index, in-table, found}
 use Rattle.curve.proofs.code_in.Statement.{statement}
 use Rattle.curve.proofs.code_in.Tie as tie
 use Rattle.curve.proofs.code_in.Reads as reads
@@ -26,26 +28,29 @@ module _ (c : lts.Start (nominal-reads.Asked, nominal-reads.Learnt, passed-reads
   abbrev entry : ℕ
   entry = getD (now (c .args .index)) place 0
 
-  light : k < 65536
+  light : k ≤ fullLight
   light = omega arith
+
+  shift : c .args .shift < 16
+  shift = shift-small (c .pre) 16 (lit< tt)
 
   place-small : place ≤ 65535
   place-small = omega (arith, div-le-self k (2 ^ c .args .shift))
 
   index-read : place < length (now (c .args .index))
-  index-read = in-index (c .args .y) (c .args .shift) (now (c .args .boundaries)) (now (c .args .index)) (c .pre) k light
+  index-read = in-index (c .pre) k light
 
   table-read : (entry + 2 ≤ length (now (c .args .boundaries))) × (length (now (c .args .boundaries)) ≤ 3504)
   table-read = (
-    in-table (c .args .y) (c .args .shift) (now (c .args .boundaries)) (now (c .args .index)) (c .pre) k light,
+    in-table (c .pre) k light,
     omega (arith, c .pre .boundaries .size, scale-range (c .args .y)),
   )
 
 cast-n : tie.Need-cast-n
-cast-n c = search needs
+cast-n c = search (needs, shift (c .before .before))
 
 shr-n : tie.Need-shr-n
-shr-n c = search needs
+shr-n c = search (needs, shift (c .before .before))
 
 cast-n-2 : tie.Need-cast-n-2
 cast-n-2 c = omega (arith, place-small (c .before .before))
@@ -99,7 +104,7 @@ returns : tie.Need-returns
 returns c =
     let start = c .before .before .before .before .before .before .before .before .before in
     rw (c .before .before .before .before .before .nominal .ensures, c .before .before .passed .ensures .0, c .passed2 .ensures .0)
-    (sym (found (start .args .y) (start .args .shift) (now (start .args .boundaries)) (now (start .args .index)) (start .pre) (start .args .light) (light start)))
+    (sym (found (start .pre) (start .args .light) (light start)))
 
 pub code-in-spec : {M : Type 1} → statement M
 code-in-spec =

@@ -1,6 +1,6 @@
 use mathlib.Core.Path.{subst⁻¹}
 use Rattle.systems.specs.declared.System.{System}
-use Rattle.curve.specs.Inner.{Ready}
+use Rattle.curve.specs.Inner.{quantiserOf, Ready}
 use borrow.Author.Needs.{needs}
 use Rattle.light.proofs.code_of.Statement.{statement}
 use Rattle.light.proofs.code_of.Tie as tie
@@ -14,7 +14,7 @@ new-requires c κs = search needs
 code-in-requires : tie.Need-code-in-requires
 code-in-requires c κs =
     let made = c .before .before .before .before .before .new in
-    subst⁻¹ (λ (z : System). Ready z 7 (made .result .boundaries) (made .result .index)) (c .before .before .before .before .before .before .enum-told .given .1) (made .ensures)
+    subst⁻¹ (λ (z : System). Ready (quantiserOf z) 7 (made .result .boundaries) (made .result .index)) (c .before .before .before .before .before .before .enum-told .given .1) (made .ensures)
 
 enum-told-2 : tie.Need-enum-told-2
 enum-told-2 c = search needs
@@ -25,7 +25,7 @@ new-requires-2 c κs = search needs
 code-in-requires-2 : tie.Need-code-in-requires-2
 code-in-requires-2 c κs =
     let made = c .before .before .before .before .before .new2 in
-    subst⁻¹ (λ (z : System). Ready z 5 (made .result .boundaries) (made .result .index)) (c .before .before .before .before .before .before .enum-told2 .given .1) (made .ensures .0)
+    subst⁻¹ (λ (z : System). Ready (quantiserOf z) 5 (made .result .boundaries) (made .result .index)) (c .before .before .before .before .before .before .enum-told2 .given .1) (made .ensures .0)
 
 enum-told-3 : tie.Need-enum-told-3
 enum-told-3 c = search needs
@@ -36,7 +36,7 @@ new-requires-3 c κs = search needs
 code-in-requires-3 : tie.Need-code-in-requires-3
 code-in-requires-3 c κs =
     let made = c .before .before .before .before .before .new3 in
-    subst⁻¹ (λ (z : System). Ready z 5 (made .result .boundaries) (made .result .index)) (c .before .before .before .before .before .before .enum-told3 .given .1) (made .ensures .1)
+    subst⁻¹ (λ (z : System). Ready (quantiserOf z) 5 (made .result .boundaries) (made .result .index)) (c .before .before .before .before .before .before .enum-told3 .given .1) (made .ensures .1)
 
 enum-told-4 : tie.Need-enum-told-4
 enum-told-4 c = search needs
@@ -47,7 +47,7 @@ new-requires-4 c κs = search needs
 code-in-requires-4 : tie.Need-code-in-requires-4
 code-in-requires-4 c κs =
     let made = c .before .before .before .before .before .new4 in
-    subst⁻¹ (λ (z : System). Ready z 3 (made .result .boundaries) (made .result .index)) (c .before .before .before .before .before .before .enum-told4 .given .1) (made .ensures)
+    subst⁻¹ (λ (z : System). Ready (quantiserOf z) 3 (made .result .boundaries) (made .result .index)) (c .before .before .before .before .before .before .enum-told4 .given .1) (made .ensures)
 
 returns : tie.Need-returns
 returns c = search needs

@@ -1,6 +1,6 @@
 use mathlib.Core.Path.{subst⁻¹}
 use Rattle.systems.specs.declared.System.{System}
-use Rattle.curve.specs.Inner.{Boundaries}
+use Rattle.curve.specs.Inner.{quantiserOf, Boundaries}
 use borrow.Author.Needs.{needs}
 use Rattle.light.proofs.span_of.Statement.{statement}
 use Rattle.light.proofs.span_of.Tie as tie
@@ -14,7 +14,7 @@ new-requires c κs = search needs
 span-in-requires : tie.Need-span-in-requires
 span-in-requires c κs =
     let made = c .before .before .before .new in
-    (subst⁻¹ (λ (z : System). Boundaries z (made .result .boundaries)) (c .before .before .before .before .enum-told .given .1) (made .ensures .boundaries), search needs, search needs)
+    (subst⁻¹ (λ (z : System). Boundaries (quantiserOf z) (made .result .boundaries)) (c .before .before .before .before .enum-told .given .1) (made .ensures .boundaries), search needs, search needs)
 
 enum-told-2 : tie.Need-enum-told-2
 enum-told-2 c = search needs
@@ -25,7 +25,7 @@ new-requires-2 c κs = search needs
 span-in-requires-2 : tie.Need-span-in-requires-2
 span-in-requires-2 c κs =
     let made = c .before .before .before .new2 in
-    (subst⁻¹ (λ (z : System). Boundaries z (made .result .boundaries)) (c .before .before .before .before .enum-told2 .given .1) (made .ensures .0 .boundaries), search needs, search needs)
+    (subst⁻¹ (λ (z : System). Boundaries (quantiserOf z) (made .result .boundaries)) (c .before .before .before .before .enum-told2 .given .1) (made .ensures .0 .boundaries), search needs, search needs)
 
 enum-told-3 : tie.Need-enum-told-3
 enum-told-3 c = search needs
@@ -36,7 +36,7 @@ new-requires-3 c κs = search needs
 span-in-requires-3 : tie.Need-span-in-requires-3
 span-in-requires-3 c κs =
     let made = c .before .before .before .new3 in
-    (subst⁻¹ (λ (z : System). Boundaries z (made .result .boundaries)) (c .before .before .before .before .enum-told3 .given .1) (made .ensures .1 .boundaries), search needs, search needs)
+    (subst⁻¹ (λ (z : System). Boundaries (quantiserOf z) (made .result .boundaries)) (c .before .before .before .before .enum-told3 .given .1) (made .ensures .1 .boundaries), search needs, search needs)
 
 enum-told-4 : tie.Need-enum-told-4
 enum-told-4 c = search needs
@@ -47,7 +47,7 @@ new-requires-4 c κs = search needs
 span-in-requires-4 : tie.Need-span-in-requires-4
 span-in-requires-4 c κs =
     let made = c .before .before .before .new4 in
-    (subst⁻¹ (λ (z : System). Boundaries z (made .result .boundaries)) (c .before .before .before .before .enum-told4 .given .1) (made .ensures .boundaries), search needs, search needs)
+    (subst⁻¹ (λ (z : System). Boundaries (quantiserOf z) (made .result .boundaries)) (c .before .before .before .before .enum-told4 .given .1) (made .ensures .boundaries), search needs, search needs)
 
 returns : tie.Need-returns
 returns c = search needs

@@ -5,10 +5,9 @@ use mathlib.Core.Bool.{Bool, true, false}
 use mathlib.Core.Logic.{_⊎_, inl, inr}
 use mathlib.Core.List.{List}
 use Prim.Native.Nat.{ℕ, _+_, _/_, _^_, _≤_, _<_}
-use native.Mathlib.Nat.{div-lt-iff-lt-mul, pow-le-pow-right}
+use native.Mathlib.Nat.{pow-le-pow-right}
 use native.Mathlib.Omega.{arith}
 use lib.Dec.{leb}
-use lib.Pow.{pow-pos}
 use lib.ListN.{length, getD}
 use mir.Val.{boolByte}
 use borrow.Author.Tests.{leb-true, leb-false}
@@ -24,15 +23,12 @@ shift-small {h = h} ready w full = go (below-or-not h w)
     go (inr l) = absurd (omega (arith, ready .shift, pow-le-pow-right {n = 2} (omega arith) l))
 
 module _ {q : Quantiser} {h : ℕ} {t x : List ℕ} (ready : Ready q h t x) (k : ℕ) (light : k ≤ q .full) where
-  -- the light's bucket, and what the index has there
-  pub in-index : k / 2 ^ h < length x
-  in-index = div-lt-iff-lt-mul {k = 2 ^ h} {x = k} {y = length x} (pow-pos h) .1 (omega (arith, ready .index .size))
-
+  -- what the index has for the light
   abbrev entry : ℕ
   entry = getD x (k / 2 ^ h) 0
 
   pub in-table : entry + 2 ≤ length t
-  in-table = omega (arith, ready .index .room (k / 2 ^ h) in-index, ready .boundaries .size)
+  in-table = omega (arith, ready .index .room k light, ready .boundaries .size)
 
   -- a compare with a boundary says which side of it the code is on
   pub found : q .code k ≡ q .first + entry + boolByte (leb (getD t entry 0) k) + boolByte (leb (getD t (entry + 1) 0) k)

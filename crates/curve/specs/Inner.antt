@@ -27,8 +27,8 @@ pub record Boundaries (q : Quantiser) (t : List ℕ) : Type 0 where
 
 -- the index has an entry n for each bucket of 2^h lights, and the bucket's codes run from the first + n to the first + n + 2
 pub record Index (q : Quantiser) (h : ℕ) (x : List ℕ) : Type 0 where
-  pub size : q .full < length x * 2 ^ h
-  pub room : (i : ℕ) → i < length x → getD x i 0 + 2 ≤ q .above
+  pub size : (k : ℕ) → k ≤ q .full → k / 2 ^ h < length x
+  pub room : (k : ℕ) → k ≤ q .full → getD x (k / 2 ^ h) 0 + 2 ≤ q .above
   pub from : (k : ℕ) → k ≤ q .full → q .first + getD x (k / 2 ^ h) 0 ≤ q .code k
   pub to : (k : ℕ) → k ≤ q .full → q .code k ≤ q .first + getD x (k / 2 ^ h) 0 + 2
 

@@ -10,7 +10,7 @@ use lib.Dec.{lit<}
 use lib.ListN.{length, getD}
 use Rattle.systems.proofs.Scales.{scale-range}
 use Rattle.curve.specs.Curve.{fullLight}
-use Rattle.curve.proofs.Lookup.{shift-small, in-index, in-table, found}
+use Rattle.curve.proofs.Lookup.{shift-small, in-table, found}
 use Rattle.curve.proofs.code_in.Statement.{statement}
 use Rattle.curve.proofs.code_in.Tie as tie
 use Rattle.curve.proofs.code_in.Reads as reads
@@ -38,7 +38,7 @@ module _ (c : lts.Start (nominal-reads.Asked, nominal-reads.Learnt, passed-reads
   place-small = omega (arith, div-le-self k (2 ^ c .args .shift))
 
   index-read : place < length (now (c .args .index))
-  index-read = in-index (c .pre) k light
+  index-read = c .pre .index .size k light
 
   table-read : (entry + 2 ≤ length (now (c .args .boundaries))) × (length (now (c .args .boundaries)) ≤ 3504)
   table-read = (

@@ -16,7 +16,8 @@ use Rattle.exact.proofs.Order.{below-or-not}
 use Rattle.exact.proofs.Table.{every, at-entry}
 use Rattle.curve.specs.Inner.{Quantiser, Boundaries, Index, Ready}
 
--- the codes are the quantiser's and rise, and `reached k d` tests that light k has the first code + d or more
+-- what the tests rest on: each code is the first or one of those above it, the codes rise with the light, and `reached k d`
+-- tests that light k's code is at least the first + d
 pub record Rule (q : Quantiser) (reached : ℕ → ℕ → Bool) : Type 0 where
   pub low : (k : ℕ) → q .first ≤ q .code k
   pub high : (k : ℕ) → q .code k ≤ q .first + q .above
@@ -31,7 +32,7 @@ boundary reached j t = reached t (suc j) && not (reached (t - 1) (suc j))
 unfoldable pub bucket : (ℕ → ℕ → Bool) → ℕ → ℕ → ℕ → ℕ → Bool
 bucket reached above h i n = leb (n + 2) above && (reached (i * 2 ^ h) n && not (reached (suc i * 2 ^ h - 1) (n + 3)))
 
-module _ (q : Quantiser) (reached : ℕ → ℕ → Bool) (rule : Rule q reached) where
+module _ {q : Quantiser} {reached : ℕ → ℕ → Bool} (rule : Rule q reached) where
   -- a test that fails says that the code is less
   pub unreached : (k d : ℕ) → 0 < d → d ≤ q .above → T (not (reached k d)) → q .code k < q .first + d
   unreached k d p m t = go (below-or-not (q .code k) (q .first + d))
@@ -98,7 +99,7 @@ module _ (q : Quantiser) (reached : ℕ → ℕ → Bool) (rule : Rule q reached
   index : (h : ℕ) (x : List ℕ) → q .full < length x * 2 ^ h → T (every (bucket reached (q .above) h) 0 x) → Index q h x
   index h x size p = record { size = in-index h x size p; room = room h x size p; from = from h x size p; to = to h x size p }
 
--- a table and its index that pass their tests are ready
-pub ready : {q : Quantiser} {reached : ℕ → ℕ → Bool} → Rule q reached → (h : ℕ) (t x : List ℕ) → 2 ^ h ≤ q .full
-    → length t ≡ q .above → T (every (boundary reached) 0 t) → q .full < length x * 2 ^ h → T (every (bucket reached (q .above) h) 0 x) → Ready q h t x
-ready {q} {reached} rule h t x shift st pt sx px = record { shift = shift; boundaries = boundaries q reached rule t st pt; index = index q reached rule h x sx px }
+  -- a table and its index that pass their tests are ready
+  pub ready : (h : ℕ) (t x : List ℕ) → 2 ^ h ≤ q .full → length t ≡ q .above → T (every (boundary reached) 0 t)
+      → q .full < length x * 2 ^ h → T (every (bucket reached (q .above) h) 0 x) → Ready q h t x
+  ready h t x shift st pt sx px = record { shift = shift; boundaries = boundaries t st pt; index = index h x sx px }

@@ -66,11 +66,7 @@ fn code_of(y: System, light: u16) -> usize
             let t = EightBits::new();
             code_in(y, &t.boundaries, &t.index, EightBits::SHIFT, light)
         }
-        System::Bt709Bits10 => {
-            let t = TenBits::new();
-            code_in(y, &t.boundaries, &t.index, TenBits::SHIFT, light)
-        }
-        System::Bt2020Bits10 => {
+        System::Bt709Bits10 | System::Bt2020Bits10 => {
             let t = TenBits::new();
             code_in(y, &t.boundaries, &t.index, TenBits::SHIFT, light)
         }
@@ -90,11 +86,7 @@ fn span_of(y: System, d: u16) -> Span
             let t = EightBits::new();
             span_in(y, &t.boundaries, d)
         }
-        System::Bt709Bits10 => {
-            let t = TenBits::new();
-            span_in(y, &t.boundaries, d)
-        }
-        System::Bt2020Bits10 => {
+        System::Bt709Bits10 | System::Bt2020Bits10 => {
             let t = TenBits::new();
             span_in(y, &t.boundaries, d)
         }

@@ -2,30 +2,19 @@
 -- Assumes nothing.
 use mathlib.Core.Path.{_≡_, refl}
 use mathlib.Core.Bool.{Bool, true, false}
-use mathlib.Core.Logic.{_⊎_, inl, inr}
 use mathlib.Core.List.{List}
-use Prim.Native.Nat.{ℕ, _+_, _/_, _^_, _≤_, _<_}
-use native.Mathlib.Nat.{pow-le-pow-right}
+use Prim.Native.Nat.{ℕ, _+_, _/_, _≤_}
 use native.Mathlib.Omega.{arith}
 use lib.Dec.{leb}
 use lib.ListN.{length, getD}
 use mir.Val.{boolByte}
 use borrow.Author.Tests.{leb-true, leb-false}
-use Rattle.exact.proofs.Order.{below-or-not}
 use Rattle.curve.specs.Inner.{Quantiser, Ready}
 
--- a light of w bits can be shifted by h
-pub shift-small : {q : Quantiser} {h : ℕ} {t x : List ℕ} → Ready q h t x → (w : ℕ) → q .full < 2 ^ w → h < w
-shift-small {h = h} ready w full = go (below-or-not h w)
-  where
-    go : (h < w) ⊎ (w ≤ h) → h < w
-    go (inl l) = l
-    go (inr l) = absurd (omega (arith, ready .shift, pow-le-pow-right {n = 2} (omega arith) l))
-
-module _ {q : Quantiser} {h : ℕ} {t x : List ℕ} (ready : Ready q h t x) (k : ℕ) (light : k ≤ q .full) where
+module _ {q : Quantiser} {w : ℕ} {t x : List ℕ} (ready : Ready q w t x) (k : ℕ) (light : k ≤ q .full) where
   -- what the index has for the light
   abbrev entry : ℕ
-  entry = getD x (k / 2 ^ h) 0
+  entry = getD x (k / w) 0
 
   pub in-table : entry + 2 ≤ length t
   in-table = omega (arith, ready .index .room k light, ready .boundaries .size)

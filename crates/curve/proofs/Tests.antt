@@ -4,12 +4,11 @@ use mathlib.Core.Path.{_≡_}
 use mathlib.Core.Bool.{Bool, not, _&&_}
 use mathlib.Core.Logic.{_⊎_, inl, inr, _↔_}
 use mathlib.Core.List.{List}
-use Prim.Native.Nat.{ℕ, suc, _+_, _*_, _-_, _/_, _^_, _≤_, _<_}
+use Prim.Native.Nat.{ℕ, suc, _+_, _*_, _-_, _/_, _≤_, _<_}
 use native.Mathlib.Nat.{lt-div-mul-add, div-mul-le-self, div-lt-iff-lt-mul}
 use native.Mathlib.Omega.{arith}
 use lib.Dec.{T, T-not, leb, leb→le}
 use lib.Ieee.Fits.{and-l, and-r}
-use lib.Pow.{pow-pos}
 use lib.ListN.{length, getD}
 use Rattle.exact.proofs.Boolean.{all-three}
 use Rattle.exact.proofs.Order.{below-or-not}
@@ -30,7 +29,7 @@ boundary reached j t = reached t (suc j) && not (reached (t - 1) (suc j))
 
 -- entry i of the index, n: the first light of the bucket has at least the first code + n, the last one less than the first + n + 3
 unfoldable pub bucket : (ℕ → ℕ → Bool) → ℕ → ℕ → ℕ → ℕ → Bool
-bucket reached above h i n = leb (n + 2) above && (reached (i * 2 ^ h) n && not (reached (suc i * 2 ^ h - 1) (n + 3)))
+bucket reached above w i n = leb (n + 2) above && (reached (i * w) n && not (reached (suc i * w - 1) (n + 3)))
 
 module _ {q : Quantiser} {reached : ℕ → ℕ → Bool} (rule : Rule q reached) where
   -- a test that fails says that the code is less
@@ -58,26 +57,26 @@ module _ {q : Quantiser} {reached : ℕ → ℕ → Bool} (rule : Rule q reached
       at : (j : ℕ) → j < length t → T (here j && not (before j))
       at = at-entry (boundary reached) t p
 
-  module _ (h : ℕ) (x : List ℕ) (size : q .full < length x * 2 ^ h) (p : T (every (bucket reached (q .above) h) 0 x)) (k : ℕ) (light : k ≤ q .full) where
+  module _ (w : ℕ) (x : List ℕ) (some : 0 < w) (size : q .full < length x * w) (p : T (every (bucket reached (q .above) w) 0 x)) (k : ℕ) (light : k ≤ q .full) where
     -- the light's bucket, the first and the last light of it, and its entry
     abbrev i : ℕ
-    i = k / 2 ^ h
+    i = k / w
 
     abbrev bucket-first : ℕ
-    bucket-first = i * 2 ^ h
+    bucket-first = i * w
 
     abbrev bucket-last : ℕ
-    bucket-last = suc i * 2 ^ h - 1
+    bucket-last = suc i * w - 1
 
     abbrev n : ℕ
     n = getD x i 0
 
     in-index : i < length x
-    in-index = div-lt-iff-lt-mul {k = 2 ^ h} {x = k} {y = length x} (pow-pos h) .1 (omega (arith, size))
+    in-index = div-lt-iff-lt-mul {k = w} {x = k} {y = length x} some .1 (omega (arith, size))
 
     at : T (leb (n + 2) (q .above)) × T (reached bucket-first n) × T (not (reached bucket-last (n + 3)))
     unfolding bucket
-    at = all-three (leb (n + 2) (q .above)) (reached bucket-first n) (not (reached bucket-last (n + 3))) (at-entry (bucket reached (q .above) h) x p i in-index)
+    at = all-three (leb (n + 2) (q .above)) (reached bucket-first n) (not (reached bucket-last (n + 3))) (at-entry (bucket reached (q .above) w) x p i in-index)
 
     room : n + 2 ≤ q .above
     room = leb→le _ _ (at .0)
@@ -91,15 +90,15 @@ module _ {q : Quantiser} {reached : ℕ → ℕ → Bool} (rule : Rule q reached
     high (inr z) = omega (arith, rule .high bucket-last)
 
     from : q .first + n ≤ q .code k
-    from = omega (arith, low (below-or-not 0 n), rule .rises bucket-first k (div-mul-le-self k (2 ^ h)))
+    from = omega (arith, low (below-or-not 0 n), rule .rises bucket-first k (div-mul-le-self k w))
 
     to : q .code k ≤ q .first + n + 2
-    to = omega (arith, high (below-or-not (n + 2) (q .above)), rule .rises k bucket-last (omega (arith, lt-div-mul-add {a = k} {b = 2 ^ h} (pow-pos h))))
+    to = omega (arith, high (below-or-not (n + 2) (q .above)), rule .rises k bucket-last (omega (arith, lt-div-mul-add {a = k} {b = w} some)))
 
-  index : (h : ℕ) (x : List ℕ) → q .full < length x * 2 ^ h → T (every (bucket reached (q .above) h) 0 x) → Index q h x
-  index h x size p = record { size = in-index h x size p; room = room h x size p; from = from h x size p; to = to h x size p }
+  index : (w : ℕ) (x : List ℕ) → 0 < w → q .full < length x * w → T (every (bucket reached (q .above) w) 0 x) → Index q w x
+  index w x some size p = record { size = in-index w x some size p; room = room w x some size p; from = from w x some size p; to = to w x some size p }
 
   -- a table and its index that pass their tests are ready
-  pub ready : (h : ℕ) (t x : List ℕ) → 2 ^ h ≤ q .full → length t ≡ q .above → T (every (boundary reached) 0 t)
-      → q .full < length x * 2 ^ h → T (every (bucket reached (q .above) h) 0 x) → Ready q h t x
-  ready h t x shift st pt sx px = record { shift = shift; boundaries = boundaries t st pt; index = index h x sx px }
+  pub ready : (w : ℕ) (t x : List ℕ) → 0 < w → w ≤ q .full → length t ≡ q .above → T (every (boundary reached) 0 t)
+      → q .full < length x * w → T (every (bucket reached (q .above) w) 0 x) → Ready q w t x
+  ready w t x some width st pt sx px = record { width = width; boundaries = boundaries t st pt; index = index w x some sx px }

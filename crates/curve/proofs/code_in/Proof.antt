@@ -1,16 +1,17 @@
 -- `curve::code_in` meets its contract: the two compares find the code, and the entry that they begin at is below the table's end.
 -- Assumes nothing.
 use mathlib.Core.Path.{sym}
+use mathlib.Core.Logic.{_⊎_, inl, inr}
 use Prim.Native.Nat.{ℕ, _+_, _/_, _^_, _≤_, _<_}
-use native.Mathlib.Nat.{div-le-self}
+use native.Mathlib.Nat.{div-le-self, pow-le-pow-right}
 use native.Mathlib.Omega.{arith}
 use borrow.Author.Needs.{needs}
 use denote.Ref.{now}
-use lib.Dec.{lit<}
 use lib.ListN.{length, getD}
+use Rattle.exact.proofs.Order.{below-or-not}
 use Rattle.systems.proofs.Scales.{scale-range}
 use Rattle.curve.specs.Curve.{fullLight}
-use Rattle.curve.proofs.Lookup.{shift-small, in-table, found}
+use Rattle.curve.proofs.Lookup.{in-table, found}
 use Rattle.curve.proofs.code_in.Statement.{statement}
 use Rattle.curve.proofs.code_in.Tie as tie
 use Rattle.curve.proofs.code_in.Reads as reads
@@ -32,7 +33,11 @@ module _ (c : lts.Start (nominal-reads.Asked, nominal-reads.Learnt, passed-reads
   light = omega arith
 
   shift : c .args .shift < 16
-  shift = shift-small (c .pre) 16 (lit< tt)
+  shift = go (below-or-not (c .args .shift) 16)
+    where
+      go : (c .args .shift < 16) ⊎ (16 ≤ c .args .shift) → c .args .shift < 16
+      go (inl l) = l
+      go (inr l) = absurd (omega (arith, c .pre .width, pow-le-pow-right {n = 2} (omega arith) l))
 
   place-small : place ≤ 65535
   place-small = omega (arith, div-le-self k (2 ^ c .args .shift))

@@ -12,7 +12,7 @@ use Rattle.thresholds_10.proofs.TenBits.new.Tie as tie
 
 returns : tie.Need-returns
 unfolding boundary bucket atLeast dark onLine reaches code
-returns c = let r = ready (rule Bt709Bits10) 5 _ _ (lit≤ tt) refl tt (lit< tt) tt in (r, r)
+returns c = let r = ready (rule Bt709Bits10) 32 _ _ (lit< tt) (lit≤ tt) refl tt (lit< tt) tt in (r, r)
 
 pub new-spec : {M : Type 1} → statement M
 new-spec = tie.close (tie.spec returns)

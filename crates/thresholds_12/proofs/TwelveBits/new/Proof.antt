@@ -12,7 +12,7 @@ use Rattle.thresholds_12.proofs.TwelveBits.new.Tie as tie
 
 returns : tie.Need-returns
 unfolding boundary bucket atLeast dark onLine reaches
-returns c = ready (rule Bt2020Bits12) 3 _ _ (lit≤ tt) refl tt (lit< tt) tt
+returns c = ready (rule Bt2020Bits12) 8 _ _ (lit< tt) (lit≤ tt) refl tt (lit< tt) tt
 
 pub new-spec : {M : Type 1} → statement M
 new-spec = tie.close (tie.spec returns)

@@ -12,7 +12,7 @@ use Rattle.thresholds_8.proofs.EightBits.new.Tie as tie
 
 returns : tie.Need-returns
 unfolding boundary bucket atLeast dark onLine reaches
-returns c = ready (rule Bt709Bits8) 7 _ _ (lit≤ tt) refl tt (lit< tt) tt
+returns c = ready (rule Bt709Bits8) 128 _ _ (lit< tt) (lit≤ tt) refl tt (lit< tt) tt
 
 pub new-spec : {M : Type 1} → statement M
 new-spec = tie.close (tie.spec returns)

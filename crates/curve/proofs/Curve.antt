@@ -13,6 +13,7 @@ use Rattle.exact.proofs.Order.{below-or-not}
 use Rattle.exact.proofs.Rounding.{int-at-least, int-rises}
 use Rattle.exact.proofs.Search.{greatest-within, greatest-passes, greatest-above}
 use Rattle.curve.specs.Curve.{dark, linear, reaches, curved, codeOf}
+use Rattle.curve.proofs.Tests.{Rule}
 
 -- the powers' rule rises with the light and falls with the code
 reaches-up : (u s a D : ℕ) {k l : ℕ} → k ≤ l → T (reaches u s a k D) → T (reaches u s a l D)
@@ -112,10 +113,10 @@ module _ (u s a b k0 : ℕ) (edge : Edge u s a b k0) where
       go (inl h) = subst⁻¹ (λ (x : Bool). P (pick x)) (dark-before k h) (f h)
       go (inr h) = subst⁻¹ (λ (x : Bool). P (pick x)) (bright-from k h) (g h)
 
-  pub code-low : (k : ℕ) → 16 * s ≤ codeOf u s a b k
+  code-low : (k : ℕ) → 16 * s ≤ codeOf u s a b k
   code-low k = by-part (λ c. 16 * s ≤ c) k (λ h. line-low k) (λ h. curve-low k)
 
-  pub code-high : (k : ℕ) → codeOf u s a b k ≤ 235 * s
+  code-high : (k : ℕ) → codeOf u s a b k ≤ 235 * s
   code-high k = by-part (λ c. c ≤ 235 * s) k (line-high k) (λ h. curve-high k)
 
   -- document 01's own words: from β on, the code is at least D exactly when the rule at D holds
@@ -123,7 +124,7 @@ module _ (u s a b k0 : ℕ) (edge : Edge u s a b k0) where
   at-least-by-rule k d h p q = by-part (λ c. (16 * s + d ≤ c) ↔ T (reaches u s a k (16 * s + d))) k (λ l. absurd (omega arith)) (λ l. on-curve k d p q)
 
   -- the test says what the code is at least
-  pub at-least : (k d : ℕ) → 0 < d → d ≤ 219 * s → (16 * s + d ≤ codeOf u s a b k) ↔ T (atLeast u s a b k d)
+  at-least : (k d : ℕ) → 0 < d → d ≤ 219 * s → (16 * s + d ≤ codeOf u s a b k) ↔ T (atLeast u s a b k d)
   unfolding atLeast
   at-least k d p q = by-part (λ c. (16 * s + d ≤ c) ↔ T (pick (dark u b k))) k
       (λ h. subst⁻¹ (λ (x : Bool). (16 * s + d ≤ linear u s k) ↔ T (pick x)) (dark-before k h) (on-line k d))
@@ -158,9 +159,13 @@ module _ (u s a b k0 : ℕ) (edge : Edge u s a b k0) where
           omega (arith, on-curve k0 d (omega arith) (omega (arith, line-high (k0 - 1) (omega arith))) .1 (subst⁻¹ (λ (n : ℕ). T (reaches u s a k0 n)) e (edge .meets)))
       go (inr p) = omega (arith, curve-low k0)
 
-  pub codes-rise : (k l : ℕ) → k ≤ l → codeOf u s a b k ≤ codeOf u s a b l
+  codes-rise : (k l : ℕ) → k ≤ l → codeOf u s a b k ≤ codeOf u s a b l
   codes-rise k l h =
       by-part (λ c. c ≤ codeOf u s a b l) k
       (λ kd. by-part (λ c. linear u s k ≤ c) l (λ ld. line-rises k l h)
       (λ lb. le-trans (line-rises k (k0 - 1) (omega arith)) (le-trans (met (omega arith)) (curve-rises k0 l lb))))
       (λ kb. by-part (λ c. curved u s a k ≤ c) l (λ ld. absurd (omega arith)) (λ lb. curve-rises k l h))
+
+  -- the curve's codes, with their test
+  pub rule : Rule (record { full = u; first = 16 * s; above = 219 * s; code = codeOf u s a b }) (atLeast u s a b)
+  rule = record { low = code-low; high = λ k. omega (arith, code-high k); rises = codes-rise; tests = at-least }

@@ -1,4 +1,4 @@
+pub mod Tests
 pub mod Curve
 pub mod Lights
-pub mod Tests
 pub mod Lookup

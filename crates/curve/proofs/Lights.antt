@@ -1,15 +1,17 @@
 -- The codes of every light of the four systems: within nominal, and rising.
 -- Assumes nothing.
 use mathlib.Core.Bool.{Bool}
-use mathlib.Core.Logic.{_↔_}
-use Prim.Native.Nat.{ℕ, _+_, _*_, _≤_, _<_}
-use lib.Dec.{T, lit<, lit≤}
+use Prim.Native.Nat.{ℕ, _*_, _≤_}
+use native.Mathlib.Omega.{arith}
+use lib.Dec.{lit<, lit≤}
 use Rattle.exact.specs.Whole.{INT}
 use Rattle.systems.specs.declared.System.{System}
 use Rattle.systems.specs.declared.System.the-variants.{Bt709Bits8, Bt709Bits10, Bt2020Bits10, Bt2020Bits12}
 use Rattle.systems.specs.Systems.{scale, transfer}
 use Rattle.curve.specs.Curve.{linear, reaches, code, fullLight}
-use Rattle.curve.proofs.Curve.{atLeast, Edge, at-least}
+use Rattle.curve.specs.Inner.{quantiserOf}
+use Rattle.curve.proofs.Tests.{Rule}
+use Rattle.curve.proofs.Curve.{atLeast, Edge}
 use Rattle.curve.proofs.Curve as curve
 
 -- the first light from β on
@@ -28,21 +30,18 @@ edge Bt2020Bits12 = record { light = lit< tt; last = lit< tt; first = lit≤ tt;
 
 -- the test of `atLeast` in a system
 abbrev pub reached : System → ℕ → ℕ → Bool
-reached y k d = atLeast fullLight (scale y) (transfer y .alpha) (transfer y .beta) k d
+reached y = atLeast fullLight (scale y) (transfer y .alpha) (transfer y .beta)
+
+pub rule : (y : System) → Rule (quantiserOf y) (reached y)
+unfolding code
+rule y = curve.rule _ _ _ _ (first y) (edge y)
 
 module _ (y : System) where
   pub code-low : (k : ℕ) → 16 * scale y ≤ code y k
-  unfolding code
-  code-low = curve.code-low _ _ _ _ (first y) (edge y)
+  code-low = rule y .low
 
   pub code-high : (k : ℕ) → code y k ≤ 235 * scale y
-  unfolding code
-  code-high = curve.code-high _ _ _ _ (first y) (edge y)
+  code-high k = omega (arith, rule y .high k)
 
   pub codes-rise : (k l : ℕ) → k ≤ l → code y k ≤ code y l
-  unfolding code
-  codes-rise = curve.codes-rise _ _ _ _ (first y) (edge y)
-
-  pub code-reaches : (k d : ℕ) → 0 < d → d ≤ 219 * scale y → (16 * scale y + d ≤ code y k) ↔ T (reached y k d)
-  unfolding code
-  code-reaches = at-least _ _ _ _ (first y) (edge y)
+  codes-rise = rule y .rises

@@ -5,7 +5,7 @@ ghost use Prim.Native.Nat.{_≤_};
 ghost use lib.Dec.{leb};
 ghost use mir.Val.{boolByte};
 ghost use Rattle.curve.specs.Curve.{code};
-ghost use Rattle.curve.specs.Inner.{Ready};
+ghost use Rattle.curve.specs.Inner.{ReadyFor};
 
 // The code of a light. The index leads by the light's high bits to the first of two boundaries that can lie below it.
 // Returned as wide as a register: a u16 would be cut here and widened again where the matrix takes it.
@@ -16,7 +16,7 @@ pub fn code_in<'a>(
     shift: u32,
     light: u16,
 ) -> usize
-    requires { ⌜ Ready y shift (now boundaries) (now index) ⌝ }
+    requires { ⌜ ReadyFor y shift (now boundaries) (now index) ⌝ }
     ensures { λ r. ⌜ r ≡ code y light ⌝ }
 {
     let n = index[(light >> shift) as usize] as usize;

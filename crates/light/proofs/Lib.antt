@@ -1,2 +1,3 @@
 pub mod Lit
 pub mod Spans
+pub mod Shared

@@ -6,7 +6,7 @@ use mathlib.Core.Logic.{_⊎_, inl, inr}
 use Prim.Native.Nat.{ℕ, zero, suc, _+_, _*_, _-_, _^_, _≤_, _<_}
 use native.Mathlib.Nat.{le-refl, le-of-suc-le-suc}
 use native.Mathlib.Omega.{arith}
-use lib.Dec.{T, T-not, ltb, ltb→lt}
+use lib.Dec.{T, leb, leb→le}
 use lib.Ieee.Fits.{and-l, and-r}
 use Rattle.exact.specs.Whole.{INT}
 use Rattle.exact.proofs.Boolean.{all-three}
@@ -16,7 +16,8 @@ use Rattle.systems.specs.declared.System.the-variants.{Bt709Bits8, Bt709Bits10,
 use Rattle.systems.specs.Systems.{scale}
 use Rattle.curve.specs.Curve.{dark, linear, reaches, codeOf, code, fullLight}
 use Rattle.curve.proofs.Curve.{onLine, atLeast}
-use Rattle.curve.proofs.Lights.{reached, code-high, codes-rise, code-reaches}
+use Rattle.curve.proofs.Tests.{unreached}
+use Rattle.curve.proofs.Lights.{reached, rule, code-high, codes-rise}
 
 -- a light of the code 16s + d, sought bit by bit past the greatest that does not reach it
 abbrev seek : (ℕ → ℕ → Bool) → ℕ → ℕ → ℕ → ℕ
@@ -25,7 +26,7 @@ seek f d (suc n) k = elim (f (k + 2 ^ n) d) [ true ↦ seek f d n k | false ↦ 
 
 -- the light k reaches 16s + d, and no more
 unfoldable exact : (ℕ → ℕ → Bool) → ℕ → ℕ → Bool
-exact f d k = ltb k 65536 && (f k d && not (f k (suc d)))
+exact f d k = leb k fullLight && (f k d && not (f k (suc d)))
 
 -- so it is for each d from 1 to n
 unfoldable hits : (ℕ → ℕ → Bool) → ℕ → Bool
@@ -78,23 +79,19 @@ first-light Bt2020Bits12 = refl
 
 -- a light that passes the test of a code has the code
 module _ (y : System) (n k : ℕ) (room : suc n ≤ 219 * scale y) (t : T (exact (reached y) (suc n) k)) where
-  tests : T (ltb k 65536) × T (reached y k (suc n)) × T (not (reached y k (suc (suc n))))
+  tests : T (leb k fullLight) × T (reached y k (suc n)) × T (not (reached y k (suc (suc n))))
   unfolding exact
-  tests = all-three (ltb k 65536) (reached y k (suc n)) (not (reached y k (suc (suc n)))) t
+  tests = all-three (leb k fullLight) (reached y k (suc n)) (not (reached y k (suc (suc n)))) t
 
   past : (suc n < 219 * scale y) ⊎ (219 * scale y ≤ suc n) → code y k < 16 * scale y + suc (suc n)
-  past (inl l) = go (below-or-not (code y k) (16 * scale y + suc (suc n)))
-    where
-      go : (code y k < 16 * scale y + suc (suc n)) ⊎ (16 * scale y + suc (suc n) ≤ code y k) → code y k < 16 * scale y + suc (suc n)
-      go (inl a) = a
-      go (inr a) = absurd (T-not (reached y k (suc (suc n))) (tests .2) (code-reaches y k (suc (suc n)) (omega arith) l .0 a))
+  past (inl l) = unreached (rule y) k (suc (suc n)) (omega arith) l (tests .2)
   past (inr l) = omega (arith, code-high y k)
 
   lit-by-test : Lit y (16 * scale y + suc n)
   lit-by-test = record {
     light = k;
-    small = omega (arith, ltb→lt k 65536 (tests .0));
-    has = omega (arith, code-reaches y k (suc n) (omega arith) room .1 (tests .1), past (below-or-not (suc n) (219 * scale y)));
+    small = leb→le k fullLight (tests .0);
+    has = omega (arith, rule y .tests k (suc n) (omega arith) room .1 (tests .1), past (below-or-not (suc n) (219 * scale y)));
   }
 
 pub every-code-lit : (y : System) (n : ℕ) → n ≤ 219 * scale y → Lit y (16 * scale y + n)

@@ -14,7 +14,7 @@ use Rattle.exact.proofs.Search.{greatest-within, greatest-passes, greatest-abov
 use Rattle.systems.specs.declared.System.{System}
 use Rattle.systems.specs.Systems.{scale}
 use Rattle.curve.specs.Curve.{code, fullLight, leastLight, greatestLight}
-use Rattle.curve.specs.Inner.{Boundaries}
+use Rattle.curve.specs.Inner.{quantiserOf, Boundaries}
 use Rattle.curve.proofs.Lights.{codes-rise}
 use Rattle.light.proofs.Lit.{Lit, every-code-lit, first-light, last-light}
 
@@ -95,7 +95,7 @@ entry-before t (suc n) h = ap (λ (q : ℕ). getD t q 0) same
     same = omega arith
 
 -- the span of the code 16s + n by a table of boundaries
-module _ (y : System) (t : List ℕ) (b : Boundaries y t) where
+module _ (y : System) (t : List ℕ) (b : Boundaries (quantiserOf y) t) where
   pub boundary-above-zero : (n : ℕ) → 1 ≤ getD t n 65536
   boundary-above-zero n = go (below-or-not n (length t))
     where

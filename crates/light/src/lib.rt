@@ -12,7 +12,7 @@ ghost use Prim.Native.Nat.{_+_, _*_, _≤_};
 ghost use lib.ListN.{length, getD};
 ghost use Rattle.systems.specs.Systems.{scale};
 ghost use Rattle.curve.specs.Curve.{code};
-ghost use Rattle.curve.specs.Inner.{Boundaries};
+ghost use Rattle.curve.specs.Inner.{quantiserOf, Boundaries};
 ghost use Rattle.light.specs.Light.{codeOfLight, span, spanOfCode, toldCode, toldSpan};
 
 pub enum LightCode {
@@ -66,11 +66,7 @@ fn code_of(y: System, light: u16) -> usize
             let t = EightBits::new();
             code_in(y, &t.boundaries, &t.index, EightBits::SHIFT, light)
         }
-        System::Bt709Bits10 => {
-            let t = TenBits::new();
-            code_in(y, &t.boundaries, &t.index, TenBits::SHIFT, light)
-        }
-        System::Bt2020Bits10 => {
+        System::Bt709Bits10 | System::Bt2020Bits10 => {
             let t = TenBits::new();
             code_in(y, &t.boundaries, &t.index, TenBits::SHIFT, light)
         }
@@ -90,11 +86,7 @@ fn span_of(y: System, d: u16) -> Span
             let t = EightBits::new();
             span_in(y, &t.boundaries, d)
         }
-        System::Bt709Bits10 => {
-            let t = TenBits::new();
-            span_in(y, &t.boundaries, d)
-        }
-        System::Bt2020Bits10 => {
+        System::Bt709Bits10 | System::Bt2020Bits10 => {
             let t = TenBits::new();
             span_in(y, &t.boundaries, d)
         }
@@ -107,7 +99,7 @@ fn span_of(y: System, d: u16) -> Span
 
 // A span runs from the code's own boundary to the light before the next one.
 fn span_in(y: System, boundaries: &[u16], d: u16) -> Span
-    requires { ⌜ Boundaries y (now boundaries) × (16 * scale y ≤ d) × (d ≤ 235 * scale y) ⌝ }
+    requires { ⌜ Boundaries (quantiserOf y) (now boundaries) × (16 * scale y ≤ d) × (d ≤ 235 * scale y) ⌝ }
     ensures { λ r. ⌜ r ≡ span y d ⌝ }
 {
     let nominal = y.nominal();

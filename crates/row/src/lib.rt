@@ -21,7 +21,7 @@ ghost use Prim.Native.Nat.{_+_, _*_, _<_, _≤_};
 ghost use lib.ListN.{length, drop, set};
 ghost use Rattle.systems.specs.declared.Matrix.the-variants.{Bt709, Bt2020};
 ghost use Rattle.systems.specs.Systems.{number, matrix};
-ghost use Rattle.curve.specs.Inner.{Ready};
+ghost use Rattle.curve.specs.Inner.{ReadyFor};
 ghost use Rattle.matrix.specs.Inner.{triple};
 ghost use Rattle.block.specs.Block.{size};
 ghost use Rattle.row.specs.Row.{sampleCodes, sampleWords, rowBlock};
@@ -67,7 +67,7 @@ fn row_709<'a>(
     lights: &[u16],
     out: &mut [u8],
 )
-    requires { ⌜ (matrix y ≡ Bt709) × Ready y shift (now boundaries) (now index) × RowFits width (now lights) (now out) ⌝ }
+    requires { ⌜ (matrix y ≡ Bt709) × ReadyFor y shift (now boundaries) (now index) × RowFits width (now lights) (now out) ⌝ }
     ensures { λ r. ⌜ now (out .exit) ≡ stored (sampleWords y (now (lights .entry))) width (now (out .entry)) width ⌝ }
 {
     let n = width as usize;
@@ -88,7 +88,7 @@ fn row_2020<'a>(
     lights: &[u16],
     out: &mut [u8],
 )
-    requires { ⌜ (matrix y ≡ Bt2020) × Ready y shift (now boundaries) (now index) × RowFits width (now lights) (now out) ⌝ }
+    requires { ⌜ (matrix y ≡ Bt2020) × ReadyFor y shift (now boundaries) (now index) × RowFits width (now lights) (now out) ⌝ }
     ensures { λ r. ⌜ now (out .exit) ≡ stored (sampleWords y (now (lights .entry))) width (now (out .entry)) width ⌝ }
 {
     let n = width as usize;
@@ -110,7 +110,7 @@ fn put_sample_709<'a>(
     lights: &[u16],
     out: &mut [u8],
 )
-    requires { ⌜ (matrix y ≡ Bt709) × Ready y shift (now boundaries) (now index) × (i < width) × (width < 65536) × RowFits width (now lights) (now out) ⌝ }
+    requires { ⌜ (matrix y ≡ Bt709) × ReadyFor y shift (now boundaries) (now index) × (i < width) × (width < 65536) × RowFits width (now lights) (now out) ⌝ }
     ensures { λ r. ⌜ now (out .exit) ≡ worded width i (sampleWords y (now (lights .entry)) i) (now (out .entry)) ⌝ }
 {
     let c = sample_codes(y, boundaries, index, shift, i, lights);
@@ -128,7 +128,7 @@ fn put_sample_2020<'a>(
     lights: &[u16],
     out: &mut [u8],
 )
-    requires { ⌜ (matrix y ≡ Bt2020) × Ready y shift (now boundaries) (now index) × (i < width) × (width < 65536) × RowFits width (now lights) (now out) ⌝ }
+    requires { ⌜ (matrix y ≡ Bt2020) × ReadyFor y shift (now boundaries) (now index) × (i < width) × (width < 65536) × RowFits width (now lights) (now out) ⌝ }
     ensures { λ r. ⌜ now (out .exit) ≡ worded width i (sampleWords y (now (lights .entry)) i) (now (out .entry)) ⌝ }
 {
     let c = sample_codes(y, boundaries, index, shift, i, lights);
@@ -144,7 +144,7 @@ fn sample_codes<'a>(
     i: usize,
     lights: &[u16],
 ) -> [usize; 3]
-    requires { ⌜ Ready y shift (now boundaries) (now index) × (3 * i + 2 < length (now lights)) × (i < 65536) ⌝ }
+    requires { ⌜ ReadyFor y shift (now boundaries) (now index) × (3 * i + 2 < length (now lights)) × (i < 65536) ⌝ }
     ensures { λ r. ⌜ triple r ≡ sampleCodes y (now (lights .entry)) i ⌝ }
 {
     let r = code_in(y, boundaries, index, shift, lights[3 * i]);

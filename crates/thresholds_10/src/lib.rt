@@ -3,7 +3,7 @@
 mod table;
 
 ghost use Rattle.systems.specs.declared.System.the-variants.{Bt709Bits10, Bt2020Bits10};
-ghost use Rattle.curve.specs.Inner.{Ready};
+ghost use Rattle.curve.specs.Inner.{ReadyFor};
 
 pub struct TenBits {
     pub boundaries: [u16; 876],
@@ -15,7 +15,7 @@ impl TenBits {
     pub const SHIFT: u32 = 5;
 
     pub fn new() -> TenBits
-        ensures { λ r. ⌜ Ready Bt709Bits10 5 (r .boundaries) (r .index) × Ready Bt2020Bits10 5 (r .boundaries) (r .index) ⌝ }
+        ensures { λ r. ⌜ ReadyFor Bt709Bits10 5 (r .boundaries) (r .index) × ReadyFor Bt2020Bits10 5 (r .boundaries) (r .index) ⌝ }
     {
         let boundaries = table::BOUNDARIES;
         let index = table::INDEX;

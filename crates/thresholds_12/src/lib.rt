@@ -3,7 +3,7 @@
 mod table;
 
 ghost use Rattle.systems.specs.declared.System.the-variants.{Bt2020Bits12};
-ghost use Rattle.curve.specs.Inner.{Ready};
+ghost use Rattle.curve.specs.Inner.{ReadyFor};
 
 pub struct TwelveBits {
     pub boundaries: [u16; 3504],
@@ -15,7 +15,7 @@ impl TwelveBits {
     pub const SHIFT: u32 = 3;
 
     pub fn new() -> TwelveBits
-        ensures { λ r. ⌜ Ready Bt2020Bits12 3 (r .boundaries) (r .index) ⌝ }
+        ensures { λ r. ⌜ ReadyFor Bt2020Bits12 3 (r .boundaries) (r .index) ⌝ }
     {
         let boundaries = table::BOUNDARIES;
         let index = table::INDEX;

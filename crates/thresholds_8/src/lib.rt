@@ -3,7 +3,7 @@
 mod table;
 
 ghost use Rattle.systems.specs.declared.System.the-variants.{Bt709Bits8};
-ghost use Rattle.curve.specs.Inner.{Ready};
+ghost use Rattle.curve.specs.Inner.{ReadyFor};
 
 pub struct EightBits {
     pub boundaries: [u16; 219],
@@ -15,7 +15,7 @@ impl EightBits {
     pub const SHIFT: u32 = 7;
 
     pub fn new() -> EightBits
-        ensures { λ r. ⌜ Ready Bt709Bits8 7 (r .boundaries) (r .index) ⌝ }
+        ensures { λ r. ⌜ ReadyFor Bt709Bits8 7 (r .boundaries) (r .index) ⌝ }
     {
         let boundaries = table::BOUNDARIES;
         let index = table::INDEX;

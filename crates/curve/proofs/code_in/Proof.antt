@@ -1,14 +1,17 @@
 -- `curve::code_in` meets its contract: the two compares find the code, and the entry that they begin at is below the table's end.
 -- Assumes nothing.
 use mathlib.Core.Path.{sym}
+use mathlib.Core.Logic.{_⊎_, inl, inr}
 use Prim.Native.Nat.{ℕ, _+_, _/_, _^_, _≤_, _<_}
-use native.Mathlib.Nat.{div-le-self}
+use native.Mathlib.Nat.{div-le-self, pow-le-pow-right}
 use native.Mathlib.Omega.{arith}
 use borrow.Author.Needs.{needs}
 use denote.Ref.{now}
 use lib.ListN.{length, getD}
+use Rattle.exact.proofs.Order.{below-or-not}
 use Rattle.systems.proofs.Scales.{scale-range}
-use Rattle.curve.proofs.Lookup.{in-index, in-table, found}
+use Rattle.curve.specs.Curve.{fullLight}
+use Rattle.curve.proofs.Lookup.{in-table, found}
 use Rattle.curve.proofs.code_in.Statement.{statement}
 use Rattle.curve.proofs.code_in.Tie as tie
 use Rattle.curve.proofs.code_in.Reads as reads
@@ -26,26 +29,33 @@ module _ (c : lts.Start (nominal-reads.Asked, nominal-reads.Learnt, passed-reads
   abbrev entry : ℕ
   entry = getD (now (c .args .index)) place 0
 
-  light : k < 65536
+  light : k ≤ fullLight
   light = omega arith
+
+  shift : c .args .shift < 16
+  shift = go (below-or-not (c .args .shift) 16)
+    where
+      go : (c .args .shift < 16) ⊎ (16 ≤ c .args .shift) → c .args .shift < 16
+      go (inl l) = l
+      go (inr l) = absurd (omega (arith, c .pre .width, pow-le-pow-right {n = 2} (omega arith) l))
 
   place-small : place ≤ 65535
   place-small = omega (arith, div-le-self k (2 ^ c .args .shift))
 
   index-read : place < length (now (c .args .index))
-  index-read = in-index (c .args .y) (c .args .shift) (now (c .args .boundaries)) (now (c .args .index)) (c .pre) k light
+  index-read = c .pre .index .size k light
 
   table-read : (entry + 2 ≤ length (now (c .args .boundaries))) × (length (now (c .args .boundaries)) ≤ 3504)
   table-read = (
-    in-table (c .args .y) (c .args .shift) (now (c .args .boundaries)) (now (c .args .index)) (c .pre) k light,
+    in-table (c .pre) k light,
     omega (arith, c .pre .boundaries .size, scale-range (c .args .y)),
   )
 
 cast-n : tie.Need-cast-n
-cast-n c = search needs
+cast-n c = search (needs, shift (c .before .before))
 
 shr-n : tie.Need-shr-n
-shr-n c = search needs
+shr-n c = search (needs, shift (c .before .before))
 
 cast-n-2 : tie.Need-cast-n-2
 cast-n-2 c = omega (arith, place-small (c .before .before))
@@ -99,7 +109,7 @@ returns : tie.Need-returns
 returns c =
     let start = c .before .before .before .before .before .before .before .before .before in
     rw (c .before .before .before .before .before .nominal .ensures, c .before .before .passed .ensures .0, c .passed2 .ensures .0)
-    (sym (found (start .args .y) (start .args .shift) (now (start .args .boundaries)) (now (start .args .index)) (start .pre) (start .args .light) (light start)))
+    (sym (found (start .pre) (start .args .light) (light start)))
 
 pub code-in-spec : {M : Type 1} → statement M
 code-in-spec =

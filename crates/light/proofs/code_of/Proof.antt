@@ -1,6 +1,7 @@
 use mathlib.Core.Path.{subst⁻¹}
 use Rattle.systems.specs.declared.System.{System}
-use Rattle.curve.specs.Inner.{Ready}
+use Rattle.curve.specs.Inner.{ReadyFor}
+use Rattle.light.proofs.Shared.{of-either}
 use borrow.Author.Needs.{needs}
 use Rattle.light.proofs.code_of.Statement.{statement}
 use Rattle.light.proofs.code_of.Tie as tie
@@ -14,21 +15,19 @@ new-requires c κs = search needs
 code-in-requires : tie.Need-code-in-requires
 code-in-requires c κs =
     let made = c .before .before .before .before .before .new in
-    subst⁻¹ (λ (z : System). Ready z 7 (made .result .boundaries) (made .result .index)) (c .before .before .before .before .before .before .enum-told .given .1) (made .ensures)
-
-enum-told-2 : tie.Need-enum-told-2
-enum-told-2 c = search needs
+    subst⁻¹ (λ (z : System). ReadyFor z 7 (made .result .boundaries) (made .result .index)) (c .before .before .before .before .before .before .enum-told .given .1) (made .ensures)
 
 new-requires-2 : tie.Need-new-requires-2
 new-requires-2 c κs = search needs
 
 code-in-requires-2 : tie.Need-code-in-requires-2
 code-in-requires-2 c κs =
+    let arm = c .before .before .before .before .before .before in
     let made = c .before .before .before .before .before .new2 in
-    subst⁻¹ (λ (z : System). Ready z 5 (made .result .boundaries) (made .result .index)) (c .before .before .before .before .before .before .enum-told2 .given .1) (made .ensures .0)
+    of-either (arm .before .args .y) (arm .match .keys2) (λ (z : System). ReadyFor z 5 (made .result .boundaries) (made .result .index)) (made .ensures .0) (made .ensures .1)
 
-enum-told-3 : tie.Need-enum-told-3
-enum-told-3 c = search needs
+enum-told-2 : tie.Need-enum-told-2
+enum-told-2 c = search needs
 
 new-requires-3 : tie.Need-new-requires-3
 new-requires-3 c κs = search needs
@@ -36,18 +35,7 @@ new-requires-3 c κs = search needs
 code-in-requires-3 : tie.Need-code-in-requires-3
 code-in-requires-3 c κs =
     let made = c .before .before .before .before .before .new3 in
-    subst⁻¹ (λ (z : System). Ready z 5 (made .result .boundaries) (made .result .index)) (c .before .before .before .before .before .before .enum-told3 .given .1) (made .ensures .1)
-
-enum-told-4 : tie.Need-enum-told-4
-enum-told-4 c = search needs
-
-new-requires-4 : tie.Need-new-requires-4
-new-requires-4 c κs = search needs
-
-code-in-requires-4 : tie.Need-code-in-requires-4
-code-in-requires-4 c κs =
-    let made = c .before .before .before .before .before .new4 in
-    subst⁻¹ (λ (z : System). Ready z 3 (made .result .boundaries) (made .result .index)) (c .before .before .before .before .before .before .enum-told4 .given .1) (made .ensures)
+    subst⁻¹ (λ (z : System). ReadyFor z 3 (made .result .boundaries) (made .result .index)) (c .before .before .before .before .before .before .enum-told2 .given .1) (made .ensures)
 
 returns : tie.Need-returns
 returns c = search needs
@@ -58,9 +46,6 @@ returns-2 c = search needs
 returns-3 : tie.Need-returns-3
 returns-3 c = search needs
 
-returns-4 : tie.Need-returns-4
-returns-4 c = search needs
-
 pub code-of-spec : {M : Type 1} → statement M
 code-of-spec =
     tie.close
@@ -68,16 +53,11 @@ code-of-spec =
     enum-told
     new-requires
     code-in-requires
-    enum-told-2
     new-requires-2
     code-in-requires-2
-    enum-told-3
+    enum-told-2
     new-requires-3
     code-in-requires-3
-    enum-told-4
-    new-requires-4
-    code-in-requires-4
     returns
     returns-2
-    returns-3
-    returns-4)
+    returns-3)

@@ -1,6 +1,7 @@
 use mathlib.Core.Path.{subst⁻¹}
 use Rattle.systems.specs.declared.System.{System}
-use Rattle.curve.specs.Inner.{Boundaries}
+use Rattle.curve.specs.Inner.{quantiserOf, Boundaries}
+use Rattle.light.proofs.Shared.{of-either}
 use borrow.Author.Needs.{needs}
 use Rattle.light.proofs.span_of.Statement.{statement}
 use Rattle.light.proofs.span_of.Tie as tie
@@ -14,21 +15,19 @@ new-requires c κs = search needs
 span-in-requires : tie.Need-span-in-requires
 span-in-requires c κs =
     let made = c .before .before .before .new in
-    (subst⁻¹ (λ (z : System). Boundaries z (made .result .boundaries)) (c .before .before .before .before .enum-told .given .1) (made .ensures .boundaries), search needs, search needs)
-
-enum-told-2 : tie.Need-enum-told-2
-enum-told-2 c = search needs
+    (subst⁻¹ (λ (z : System). Boundaries (quantiserOf z) (made .result .boundaries)) (c .before .before .before .before .enum-told .given .1) (made .ensures .boundaries), search needs, search needs)
 
 new-requires-2 : tie.Need-new-requires-2
 new-requires-2 c κs = search needs
 
 span-in-requires-2 : tie.Need-span-in-requires-2
 span-in-requires-2 c κs =
+    let arm = c .before .before .before .before in
     let made = c .before .before .before .new2 in
-    (subst⁻¹ (λ (z : System). Boundaries z (made .result .boundaries)) (c .before .before .before .before .enum-told2 .given .1) (made .ensures .0 .boundaries), search needs, search needs)
+    (of-either (arm .before .args .y) (arm .match .keys2) (λ (z : System). Boundaries (quantiserOf z) (made .result .boundaries)) (made .ensures .0 .boundaries) (made .ensures .1 .boundaries), search needs, search needs)
 
-enum-told-3 : tie.Need-enum-told-3
-enum-told-3 c = search needs
+enum-told-2 : tie.Need-enum-told-2
+enum-told-2 c = search needs
 
 new-requires-3 : tie.Need-new-requires-3
 new-requires-3 c κs = search needs
@@ -36,18 +35,7 @@ new-requires-3 c κs = search needs
 span-in-requires-3 : tie.Need-span-in-requires-3
 span-in-requires-3 c κs =
     let made = c .before .before .before .new3 in
-    (subst⁻¹ (λ (z : System). Boundaries z (made .result .boundaries)) (c .before .before .before .before .enum-told3 .given .1) (made .ensures .1 .boundaries), search needs, search needs)
-
-enum-told-4 : tie.Need-enum-told-4
-enum-told-4 c = search needs
-
-new-requires-4 : tie.Need-new-requires-4
-new-requires-4 c κs = search needs
-
-span-in-requires-4 : tie.Need-span-in-requires-4
-span-in-requires-4 c κs =
-    let made = c .before .before .before .new4 in
-    (subst⁻¹ (λ (z : System). Boundaries z (made .result .boundaries)) (c .before .before .before .before .enum-told4 .given .1) (made .ensures .boundaries), search needs, search needs)
+    (subst⁻¹ (λ (z : System). Boundaries (quantiserOf z) (made .result .boundaries)) (c .before .before .before .before .enum-told2 .given .1) (made .ensures .boundaries), search needs, search needs)
 
 returns : tie.Need-returns
 returns c = search needs
@@ -58,9 +46,6 @@ returns-2 c = search needs
 returns-3 : tie.Need-returns-3
 returns-3 c = search needs
 
-returns-4 : tie.Need-returns-4
-returns-4 c = search needs
-
 pub span-of-spec : {M : Type 1} → statement M
 span-of-spec =
     tie.close
@@ -68,16 +53,11 @@ span-of-spec =
     enum-told
     new-requires
     span-in-requires
-    enum-told-2
     new-requires-2
     span-in-requires-2
-    enum-told-3
+    enum-told-2
     new-requires-3
     span-in-requires-3
-    enum-told-4
-    new-requires-4
-    span-in-requires-4
     returns
     returns-2
-    returns-3
-    returns-4)
+    returns-3)

@@ -3,7 +3,7 @@
 use mathlib.Core.Path.{ap, subst⁻¹}
 use Rattle.systems.specs.declared.System.{System}
 use Rattle.systems.specs.Systems.{matrix}
-use Rattle.curve.specs.Inner.{Ready}
+use Rattle.curve.specs.Inner.{ReadyFor}
 use Rattle.row.proofs.Written.{row-written}
 use borrow.Author.Needs.{needs}
 use Rattle.row.proofs.write_row.Statement.{statement}
@@ -22,7 +22,7 @@ row-709-requires : tie.Need-row-709-requires
 row-709-requires c κs =
     let made = c .before .before .before .before .before .before .new in
     let told = c .before .before .before .before .before .before .before .enum-told .given .1 in
-    (ap matrix told, subst⁻¹ (λ (z : System). Ready z 7 (made .result .boundaries) (made .result .index)) told (made .ensures), search needs)
+    (ap matrix told, subst⁻¹ (λ (z : System). ReadyFor z 7 (made .result .boundaries) (made .result .index)) told (made .ensures), search needs)
 
 enum-told-2 : tie.Need-enum-told-2
 enum-told-2 c = search needs
@@ -34,7 +34,7 @@ row-709-requires-2 : tie.Need-row-709-requires-2
 row-709-requires-2 c κs =
     let made = c .before .before .before .before .before .before .new2 in
     let told = c .before .before .before .before .before .before .before .enum-told2 .given .1 in
-    (ap matrix told, subst⁻¹ (λ (z : System). Ready z 5 (made .result .boundaries) (made .result .index)) told (made .ensures .0), search needs)
+    (ap matrix told, subst⁻¹ (λ (z : System). ReadyFor z 5 (made .result .boundaries) (made .result .index)) told (made .ensures .0), search needs)
 
 enum-told-3 : tie.Need-enum-told-3
 enum-told-3 c = search needs
@@ -46,7 +46,7 @@ row-2020-requires : tie.Need-row-2020-requires
 row-2020-requires c κs =
     let made = c .before .before .before .before .before .before .new3 in
     let told = c .before .before .before .before .before .before .before .enum-told3 .given .1 in
-    (ap matrix told, subst⁻¹ (λ (z : System). Ready z 5 (made .result .boundaries) (made .result .index)) told (made .ensures .1), search needs)
+    (ap matrix told, subst⁻¹ (λ (z : System). ReadyFor z 5 (made .result .boundaries) (made .result .index)) told (made .ensures .1), search needs)
 
 enum-told-4 : tie.Need-enum-told-4
 enum-told-4 c = search needs
@@ -58,7 +58,7 @@ row-2020-requires-2 : tie.Need-row-2020-requires-2
 row-2020-requires-2 c κs =
     let made = c .before .before .before .before .before .before .new4 in
     let told = c .before .before .before .before .before .before .before .enum-told4 .given .1 in
-    (ap matrix told, subst⁻¹ (λ (z : System). Ready z 3 (made .result .boundaries) (made .result .index)) told (made .ensures), search needs)
+    (ap matrix told, subst⁻¹ (λ (z : System). ReadyFor z 3 (made .result .boundaries) (made .result .index)) told (made .ensures), search needs)
 
 same-length : tie.Need-same-length
 same-length c = search needs

@@ -52,7 +52,7 @@ sub-add a b c d = by-order (below-or-not a b) (below-or-not c d)
         let q : a - b + (c - d) + (b + d) ≡ a + c + 0 = omega arith in
         (λ i. sub-pos a b h i +ℤ sub-pos c d k i) ∙ pos-sub (a - b + (c - d)) ∙ sub-eq (a - b + (c - d)) 0 (a + c) (b + d) q
 
-pub negate-sub : (a b : ℕ) → negℤ (subℕ a b) ≡ subℕ b a
+negate-sub : (a b : ℕ) → negℤ (subℕ a b) ≡ subℕ b a
 negate-sub a b = elim (below-or-not a b) [
   | inl h ↦ let k : a ≤ b = omega arith in let q : suc (b - suc a) ≡ b - a = omega arith in ap negℤ (sub-neg a b h) ∙ ap pos q ∙ sym (sub-pos b a k)
   | inr h ↦ let q : 0 + a ≡ b + (a - b) = omega arith in ap negℤ (sub-pos a b h) ∙ neg-sub (a - b) ∙ sub-eq 0 (a - b) b a q

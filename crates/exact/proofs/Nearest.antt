@@ -83,18 +83,18 @@ pub record Near (v : ℤ) (q : Ratio) : Type 0 where
   pub not-over : (pos 2 *ℤ (v *ℤ pos (q .bottom) -ℤ q .top)) ≤ℤ pos (q .bottom)
   pub not-under : (pos 2 *ℤ (q .top -ℤ v *ℤ pos (q .bottom))) ≤ℤ pos (q .bottom)
 
+-- twice what u - v is above p - n is at most d
+twice-above : (u v p n d : ℕ) → 2 * (u + n) ≤ 2 * (v + p) + d → (pos 2 *ℤ (subℕ u v -ℤ subℕ p n)) ≤ℤ pos d
+twice-above u v p n d h =
+    rw (sub-minus u v p n, *ℤ-comm (pos 2) (subℕ (u + n) (v + p)), sub-mul (u + n) (v + p) 2, pos-sub d)
+    (sub-le ((u + n) * 2) ((v + p) * 2) d 0 (omega arith))
+
 near : (p n d a b : ℕ) → 2 * (a * d) + 2 * n ≤ 2 * p + d + 2 * (b * d) → 2 * p + 2 * (b * d) ≤ 2 * (a * d) + 2 * n + d
     → Near (subℕ a b) record { top = subℕ p n; bottom = d }
 near p n d a b o u = record {
-  not-over = subst (λ (z : ℤ). z ≤ℤ pos d) (sym over) (subst (λ (z : ℤ). subℕ ((a * d + n) * 2) ((b * d + p) * 2) ≤ℤ z) (sym (pos-sub d)) (sub-le ((a * d + n) * 2) ((b * d + p) * 2) d 0 (omega arith)));
-  not-under = subst (λ (z : ℤ). z ≤ℤ pos d) (sym under) (subst (λ (z : ℤ). subℕ ((p + b * d) * 2) ((n + a * d) * 2) ≤ℤ z) (sym (pos-sub d)) (sub-le ((p + b * d) * 2) ((n + a * d) * 2) d 0 (omega arith)));
+  not-over = rw (sub-mul a b d) (twice-above (a * d) (b * d) p n d (omega arith));
+  not-under = rw (sub-mul a b d) (twice-above p n (a * d) (b * d) d (omega arith));
 }
-  where
-    over : pos 2 *ℤ (subℕ a b *ℤ pos d -ℤ subℕ p n) ≡ subℕ ((a * d + n) * 2) ((b * d + p) * 2)
-    over = ap (λ (z : ℤ). pos 2 *ℤ (z -ℤ subℕ p n)) (sub-mul a b d) ∙ ap (λ (z : ℤ). pos 2 *ℤ z) (sub-minus (a * d) (b * d) p n) ∙ *ℤ-comm (pos 2) (subℕ (a * d + n) (b * d + p)) ∙ sub-mul (a * d + n) (b * d + p) 2
-
-    under : pos 2 *ℤ (subℕ p n -ℤ subℕ a b *ℤ pos d) ≡ subℕ ((p + b * d) * 2) ((n + a * d) * 2)
-    under = ap (λ (z : ℤ). pos 2 *ℤ (subℕ p n -ℤ z)) (sub-mul a b d) ∙ ap (λ (z : ℤ). pos 2 *ℤ z) (sub-minus p n (a * d) (b * d)) ∙ *ℤ-comm (pos 2) (subℕ (p + b * d) (n + a * d)) ∙ sub-mul (p + b * d) (n + a * d) 2
 
 difference-near : (p n d : ℕ) → 0 < d → Near (rounded record { top = subℕ p n; bottom = d }) record { top = subℕ p n; bottom = d }
 difference-near p n d D =

@@ -1,7 +1,7 @@
 use mathlib.Core.Path.{sym, _∙_}
 use borrow.Author.Tests.{not-true, not-false}
 use borrow.Author.Needs.{needs}
-use Rattle.picture.proofs.Ranges.{in-range}
+use Rattle.systems.proofs.Ranges.{in-range}
 use Rattle.picture.proofs.begin_in.Statement.{statement}
 use Rattle.picture.proofs.begin_in.Tie as tie
 
@@ -22,12 +22,12 @@ returns-2 c =
 cast-samples : tie.Need-cast-samples
 cast-samples c =
     let width = c .before .before in
-    let w = in-range (width .before .before .args .width) 1 7680 (sym (width .before .is-size .ensures) ∙ not-false _ (width .if1 .left)) in
+    let w = in-range (record { low = 1; high = 7680 }) (width .before .before .args .width) (sym (width .before .is-size .ensures) ∙ not-false _ (width .if1 .left)) in
     search needs
 
 cast-most : tie.Need-cast-most
 cast-most c =
-    let h = in-range (c .before .before .before .before .args .height) 1 4320 (sym (c .before .is-size2 .ensures) ∙ not-false _ (c .if2 .left)) in
+    let h = in-range (record { low = 1; high = 4320 }) (c .before .before .before .before .args .height) (sym (c .before .is-size2 .ensures) ∙ not-false _ (c .if2 .left)) in
     search needs
 
 returns-3 : tie.Need-returns-3

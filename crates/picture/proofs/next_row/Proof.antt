@@ -1,8 +1,11 @@
 use borrow.Author.Needs.{needs}
+use borrow.Author.Tests.{lt-ltb, le-ltb, le-leb, lt-leb, eq-eqb, ne-eqb}
 use Rattle.picture.specs.Picture.{rowOpen}
-use Rattle.picture.proofs.Ranges.{tests}
 use Rattle.picture.proofs.next_row.Statement.{statement}
 use Rattle.picture.proofs.next_row.Tie as tie
+
+-- a test's value, where a branch has told it
+ruleset tests = (lt-ltb, le-ltb, le-leb, lt-leb, eq-eqb, ne-eqb)
 
 cast-needed : tie.Need-cast-needed
 cast-needed c = search needs

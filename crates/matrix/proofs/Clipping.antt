@@ -119,5 +119,4 @@ pub kept-whole : (n : Range) (v : ℤ) (d : ℕ) → n .low ≤ d → d ≤ n .h
 kept-whole n v d l h e =
     let low : ltZ v (pos (n .low)) ≡ false = ap (λ (z : ℤ). ltZ z (pos (n .low))) e ∙ le-ltb d (n .low) l in
     let high : ltZ (pos (n .high)) v ≡ false = ap (λ (z : ℤ). ltZ (pos (n .high)) z) e ∙ le-ltb (n .high) d h in
-    let kept : clipped n v ≡ whole v = λ i. elim (low i) [ true ↦ n .low | false ↦ elim (high i) [ true ↦ n .high | false ↦ whole v ] ] in
-    (kept ∙ ap whole e, λ i. elim (low i) [ true ↦ 1 | false ↦ elim (high i) [ true ↦ 1 | false ↦ 0 ] ])
+    (sym (clipped-by n v false false low high) ∙ ap whole e, sym (beyond-by n v false false low high))

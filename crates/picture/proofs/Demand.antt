@@ -13,8 +13,9 @@ use Rattle.exact.specs.Outcome as outcome
 use Rattle.exact.specs.Outcome.{Outcome}
 use Rattle.systems.specs.Systems.{number}
 use Rattle.block.specs.Read.{headerOf, sliceAfter}
-use Rattle.row.specs.Row.{rowBlock}
 use Rattle.block.specs.Block.{size}
+use Rattle.row.specs.Row.{rowBlock}
+use Rattle.row.proofs.Written.{length-row-block}
 use Rattle.picture.specs.declared.Opened.{Opened}
 use Rattle.picture.specs.declared.Phase.{Phase}
 use Rattle.picture.specs.declared.Phase.the-variants.{Fresh, Open, Closed}
@@ -26,7 +27,7 @@ use Rattle.picture.proofs.Calls.{Label, Card, Lent, Lights, Ran, ends, 
 use Rattle.picture.proofs.Card.{heardOf, labelOf, Opens, by-open, Rows, by-row, Closes, by-close, Reads, by-read-block, card}
 use Rattle.picture.proofs.Claims.{ReadsBack, Blocks, none, one, keptBy, kept, Unchanged, stateOf, stateFrom, Demanded, Proper}
 use Rattle.picture.proofs.Faithful.{Follows, Faithful}
-use Rattle.picture.proofs.Rows.{block-size, reads-back}
+use Rattle.picture.proofs.Rows.{reads-back}
 use Rattle.picture.proofs.Steps.{InStep, open-step, row-step, close-step}
 
 -- ---- what a row leaves in its buffer
@@ -58,7 +59,7 @@ row-keeps {card} does (Open o) lights out g l =
     (λ c.
     let lt = ltb-true (o .rows) (o .height) a in
     let numbered : o .rows ≤ 4319 = omega (arith, g .height-to) in
-    let long = block-size (o .system) (o .rows) (o .width) lights (g .width-from) (g .width-to) numbered in
+    let long = length-row-block (o .system) (o .rows) (o .width) lights in
     let back = reads-back (o .system) (o .rows) (o .width) lights (g .width-from) (g .width-to) numbered does l in
     let entry : Entry = record { system = number (o .system); width = o .width; row = o .rows; lights = lights } in
     let made : List ℕ = rowBlock (o .system) (o .rows) (o .width) lights in

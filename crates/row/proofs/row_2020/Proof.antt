@@ -7,25 +7,16 @@ use Rattle.row.proofs.Samples.{StoredTo, none-stored, one-more-stored, 
 use Rattle.row.proofs.row_2020.Statement.{statement}
 use Rattle.row.proofs.row_2020.Tie as tie
 
-abbrev Inv-loop : tie.InvT-loop
-Inv-loop y boundaries index shift width lights out₀ n i₀ out i = StoredTo y lights width out₀ n out i
-
-abbrev μ-loop : tie.MeasureT-loop
-μ-loop y boundaries index shift width lights out₀ n i₀ out i = n - i
-
-loop-again : tie.Need-loop-again Inv-loop μ-loop
-loop-again c = one-more-stored (c .before .before .before .before .before .loop .inv) (omega arith) (search needs) (c .before .before .put-sample-2020 .ensures)
-
 pub row-2020-spec : {M : Type 1} → statement M
 row-2020-spec =
     tie.close
     (tie.spec
-    Inv-loop
-    μ-loop
+    (λ y boundaries index shift width lights out₀ n i₀ out i. StoredTo y lights width out₀ n out i)
+    (λ y boundaries index shift width lights out₀ n i₀ out i. n - i)
     (λ c. none-stored)
     (λ c κs. search needs)
     (λ c. search needs)
     (λ c. search needs)
-    loop-again
+    (λ c. one-more-stored (c .before .before .before .before .before .loop .inv) (omega arith) (search needs) (c .before .before .put-sample-2020 .ensures))
     (λ c. search needs)
     (λ c. all-stored (c .before .loop .inv) (omega arith)))

@@ -10,7 +10,6 @@ use Rattle.exact.specs.Signed.{rounded}
 use Rattle.exact.proofs.Difference.{pos-sub, sub-eq}
 use Rattle.exact.proofs.Nearest.{Rounds}
 use Rattle.systems.specs.declared.Codes.{Codes}
-use Rattle.systems.specs.declared.Range.{Range}
 use Rattle.systems.specs.declared.Matrix.{Matrix}
 use Rattle.systems.specs.declared.Matrix.the-variants.{Bt709, Bt2020}
 use Rattle.systems.specs.Systems.{kr, kb}
@@ -19,7 +18,7 @@ use Rattle.matrix.specs.Triples.{weighted, whole, primary, signed, redOf
 use Rattle.matrix.specs.Inner.{NominalCodes}
 use Rattle.matrix.proofs.Fractions.{luma-rounds, difference-rounds, primary-rounds, green-rounds}
 use Rattle.matrix.proofs.Nominal.{divisors, Word, WordsOf, words-of, words-are}
-use Rattle.matrix.proofs.Clipping.{OffByOne, clipped-nearer, kept-whole}
+use Rattle.matrix.proofs.Clipping.{nominalAt, OffByOne, clipped-nearer, kept-whole}
 
 -- ---- within one
 off : {p n d : ℕ} {v : ℤ} (k : ℕ) (r : Rounds p n d v) → r .up ≤ k + 1 + r .down → k + r .down ≤ r .up + 1 → OffByOne v k
@@ -39,23 +38,19 @@ green-near : (x : Matrix) (s : ℕ) (c : Codes) (v : WordsOf x s c) → OffByOne
 green-near Bt709 s c v = let g = green-rounds Bt709 s (words Bt709 s c v) (lit< tt) in off (c .g) g (omega arith) (omega arith)
 green-near Bt2020 s c v = let g = green-rounds Bt2020 s (words Bt2020 s c v) (lit< tt) in off (c .g) g (omega arith) (omega arith)
 
--- each component of a is off that of b by at most one code
-pub record WithinOne (a b : Codes) : Type 0 where
-  pub r-over : a .r ≤ b .r + 1
-  pub r-under : b .r ≤ a .r + 1
-  pub g-over : a .g ≤ b .g + 1
-  pub g-under : b .g ≤ a .g + 1
-  pub b-over : a .b ≤ b .b + 1
-  pub b-under : b .b ≤ a .b + 1
+-- each component of c is off that of d by at most one code
+pub record WithinOne (c d : Codes) : Type 0 where
+  pub r : (c .r ≤ d .r + 1) × (d .r ≤ c .r + 1)
+  pub g : (c .g ≤ d .g + 1) × (d .g ≤ c .g + 1)
+  pub b : (c .b ≤ d .b + 1) × (d .b ≤ c .b + 1)
 
 codes-near : (x : Matrix) (s : ℕ) (c : Codes) → NominalCodes s c → (v : WordsOf x s c) → WithinOne (codesAt x s (words x s c v) .codes) c
 unfolding codesAt
-codes-near x s c n v =
-    let range : Range = record { low = 16 * s; high = 235 * s } in
-    let r = clipped-nearer range (rounded (redOf x s (words x s c v))) (c .r) (n .r-low) (n .r-high) (primary-near s (kr x) (c .r) (weighted x c) (v .y) (v .cr)) in
-    let g = clipped-nearer range (rounded (greenOf x s (words x s c v))) (c .g) (n .g-low) (n .g-high) (green-near x s c v) in
-    let b = clipped-nearer range (rounded (blueOf x s (words x s c v))) (c .b) (n .b-low) (n .b-high) (primary-near s (kb x) (c .b) (weighted x c) (v .y) (v .cb)) in
-    record { r-over = r .0; r-under = r .1; g-over = g .0; g-under = g .1; b-over = b .0; b-under = b .1 }
+codes-near x s c n v = record {
+  r = clipped-nearer (nominalAt s) _ (c .r) (n .r-low) (n .r-high) (primary-near s (kr x) (c .r) (weighted x c) (v .y) (v .cr));
+  g = clipped-nearer (nominalAt s) _ (c .g) (n .g-low) (n .g-high) (green-near x s c v);
+  b = clipped-nearer (nominalAt s) _ (c .b) (n .b-low) (n .b-high) (primary-near s (kb x) (c .b) (weighted x c) (v .y) (v .cb));
+}
 
 pub codes-return-within-one : (x : Matrix) (s : ℕ) (c : Codes) → NominalCodes s c → WithinOne (codesAt x s (wordsAt x s c) .codes) c
 codes-return-within-one x s c n =
@@ -94,10 +89,9 @@ grey-words x s d =
 grey-codes : (x : Matrix) (s d : ℕ) → 16 * s ≤ d → d ≤ 235 * s → codesAt x s (greyWords s d) ≡ record { codes = grey d; count = 0 }
 unfolding codesAt
 grey-codes x s d l h =
-    let range : Range = record { low = 16 * s; high = 235 * s } in
-    let r = kept-whole range _ d l h (whole-stays d (primary-rounds d (128 * s) s (kr x)) (omega arith)) in
-    let g = kept-whole range _ d l h (whole-stays d (green-rounds x s (greyWords s d) (divisors x .green)) (omega arith)) in
-    let b = kept-whole range _ d l h (whole-stays d (primary-rounds d (128 * s) s (kb x)) (omega arith)) in
+    let r = kept-whole (nominalAt s) _ d l h (whole-stays d (primary-rounds d (128 * s) s (kr x)) (omega arith)) in
+    let g = kept-whole (nominalAt s) _ d l h (whole-stays d (green-rounds x s (greyWords s d) (divisors x .green)) (omega arith)) in
+    let b = kept-whole (nominalAt s) _ d l h (whole-stays d (primary-rounds d (128 * s) s (kb x)) (omega arith)) in
     λ i. record { codes = record { r = r .0 i; g = g .0 i; b = b .0 i }; count = r .1 i + g .1 i + b .1 i }
 
 -- a grey's Y' is its code and its colour differences are zero; it comes back as it was, unclipped

@@ -81,31 +81,28 @@ pub record After (card : Card) (p : Picture) (cs : List Call) (hs : List Heard) 
   pub proper : Proper (q .phase)
 
 module _ {card : Card} {p p′ q : Picture} {c : Call} {heard : Heard} {cs : List Call} {hs : List Heard} {ls : List Lent} (i : InStep p c heard p′) where
-  -- an open or a close: no buffer, no entry
-  call-then : entered (stateOf (p .phase)) c ≡ [] → After card p′ cs hs ls q → After card p (c ∷ cs) (heard ∷ hs) ls q
+  -- with the buffers ms in all
+  then : {ms : List Lent} → Unchanged ms → Blocks card (kept ms) (entered (stateOf (p .phase)) c ++ entriesFrom (stateOf (p′ .phase)) cs)
+      → After card p′ cs hs ls q → After card p (c ∷ cs) (heard ∷ hs) ms q
   unfolding heardFrom entriesFrom stateFrom
-  call-then e k = record {
+  then u b k = record {
     demanded = record {
       heard = rw (← i .leads-on, ← i .same) (ap (λ (l : List Heard). heard ∷ l) (k .demanded .heard));
       state = rw (← i .leads-on) (k .demanded .state);
-      unchanged = k .demanded .unchanged;
-      blocks = rw (e, ← i .leads-on) (k .demanded .blocks);
+      unchanged = u;
+      blocks = rw (← i .leads-on) b;
     };
     proper = k .proper;
   }
 
+  -- an open or a close: no buffer, no entry
+  call-then : entered (stateOf (p .phase)) c ≡ [] → After card p′ cs hs ls q → After card p (c ∷ cs) (heard ∷ hs) ls q
+  call-then e k = then (k .demanded .unchanged) (rw e (k .demanded .blocks)) k
+
   row-then : {l : Lent} → ((n : ℕ) → l .heard ≡ refused n → l .after ≡ l .before) → Blocks card (keptBy (l .heard) l) (entered (stateOf (p .phase)) c)
       → After card p′ cs hs ls q → After card p (c ∷ cs) (heard ∷ hs) (l ∷ ls) q
-  unfolding heardFrom entriesFrom stateFrom kept Unchanged
-  row-then u b k = record {
-    demanded = record {
-      heard = rw (← i .leads-on, ← i .same) (ap (λ (l : List Heard). heard ∷ l) (k .demanded .heard));
-      state = rw (← i .leads-on) (k .demanded .state);
-      unchanged = (u, k .demanded .unchanged);
-      blocks = blocks-append b (rw (← i .leads-on) (k .demanded .blocks));
-    };
-    proper = k .proper;
-  }
+  unfolding kept Unchanged
+  row-then u b k = then (u, k .demanded .unchanged) (blocks-append b (k .demanded .blocks)) k
 
 no-entry : (t : Bool) → choose {A = List Entry} t [] [] ≡ []
 no-entry true = refl

@@ -135,7 +135,7 @@ module _ (y : System) (lights : List ℕ) (i : ℕ) where
   sample-returns =
       let back = codes-return-within-one (matrix y) (scale y) c sample-nominal in
       let n = codes-nominal (matrix y) (scale y) (wordsAt (matrix y) (scale y) c) in
-      (((back .r-over, back .r-under), (n .r-low, n .r-high)), ((back .g-over, back .g-under), (n .g-low, n .g-high)), ((back .b-over, back .b-under), (n .b-low, n .b-high)))
+      ((back .r, (n .r-low, n .r-high)), (back .g, (n .g-low, n .g-high)), (back .b, (n .b-low, n .b-high)))
 
 -- ---- a row of w samples, numbered r
 

@@ -3,7 +3,7 @@
 use mathlib.Core.Path.{_≡_, sym, ap, _∙_, subst}
 use mathlib.Core.Logic.{_⊎_, inl, inr}
 use Prim.Native.Nat.{ℕ, suc, _+_, _*_, _-_, _/_, _≤_, _<_}
-use native.Mathlib.Nat.{div-mul-le-self, lt-div-mul-add, div-eq-of-lt-le, lt-of-mul-lt-mul-right, mul-left-comm, add-mul, suc-mul, zero-mul}
+use native.Mathlib.Nat.{div-mul-le-self, lt-div-mul-add, div-eq-of-lt-le, lt-of-mul-lt-mul-right}
 use native.Mathlib.Omega.{arith}
 use lib.IntN.{ℤ, pos, negsuc, subℕ, _+ℤ_, _-ℤ_, _*ℤ_, *ℤ-comm}
 use lib.Signed.{shrZ, _≤ℤ_}
@@ -20,16 +20,13 @@ floor-is a b u v k K l h = by-order (below-or-not a b)
         let less : u < v = lt-of-mul-lt-mul-right k (omega arith) in
         let n = v - suc u in
         let e : v ≡ n + suc u = omega arith in
-        let f : v * k ≡ n * k + suc u * k = ap (λ (x : ℕ). x * k) e ∙ add-mul n (suc u) k in
-        let g : suc u * k ≡ u * k + k = suc-mul u k in
-        let i : (n + 1) * k ≡ n * k + 1 * k = add-mul n 1 k in
+        let f : v * k ≡ (n + suc u) * k = ap (λ (x : ℕ). x * k) e in
         ap (λ (z : ℤ). shrZ z k) (sub-neg a b m) ∙ ap negsuc (div-eq-of-lt-le k (omega arith) (omega arith)) ∙ sym (sub-neg u v less)
     by-order (inr m) =
-        let not-more : v < u + 1 = lt-of-mul-lt-mul-right k (omega (arith, add-mul u 1 k)) in
+        let not-more : v < u + 1 = lt-of-mul-lt-mul-right k (omega arith) in
         let n = u - v in
         let e : u ≡ n + v = omega arith in
-        let f : u * k ≡ n * k + v * k = ap (λ (x : ℕ). x * k) e ∙ add-mul n v k in
-        let i : (n + 1) * k ≡ n * k + 1 * k = add-mul n 1 k in
+        let f : u * k ≡ (n + v) * k = ap (λ (x : ℕ). x * k) e in
         ap (λ (z : ℤ). shrZ z k) (sub-pos a b m) ∙ ap pos (div-eq-of-lt-le k (omega arith) (omega arith)) ∙ sym (sub-pos u v (omega arith))
 
 -- v is INT of (p - n)/d, in naturals: v = up - down, and 2vd ≤ 2(p - n) + d < 2vd + 2d
@@ -53,9 +50,6 @@ rounds p n d D = subst (λ (z : ℤ). Rounds p n d (shrZ z (2 * d))) (sym double
         let q = a / (2 * d) in
         let l : q * (2 * d) ≤ a = div-mul-le-self a (2 * d) in
         let u : a < q * (2 * d) + 2 * d = lt-div-mul-add (omega arith) in
-        let e : q * (2 * d) ≡ 2 * (q * d) = mul-left-comm q 2 d in
-        let f : suc q * d ≡ q * d + d = suc-mul q d in
-        let z : 0 * d ≡ 0 = zero-mul d in
         record {
           up = 0;
           down = suc q;
@@ -68,8 +62,6 @@ rounds p n d D = subst (λ (z : ℤ). Rounds p n d (shrZ z (2 * d))) (sym double
         let q = a / (2 * d) in
         let l : q * (2 * d) ≤ a = div-mul-le-self a (2 * d) in
         let u : a < q * (2 * d) + 2 * d = lt-div-mul-add (omega arith) in
-        let e : q * (2 * d) ≡ 2 * (q * d) = mul-left-comm q 2 d in
-        let z : 0 * d ≡ 0 = zero-mul d in
         record {
           up = q;
           down = 0;

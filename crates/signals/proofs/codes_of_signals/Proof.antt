@@ -1,6 +1,6 @@
 use mathlib.Core.Path.{_∙_, sym}
 use borrow.Author.Needs.{needs}
-use Rattle.signals.proofs.Triple.{each-in-unit}
+use Rattle.signals.proofs.Unit.{each-in-unit}
 use Rattle.signals.proofs.codes_of_signals.Statement.{statement}
 use Rattle.signals.proofs.codes_of_signals.Tie as tie
 

@@ -91,11 +91,11 @@ near p n d a b o u = record {
 difference-near : (p n d : ℕ) → 0 < d → Near (rounded record { top = subℕ p n; bottom = d }) record { top = subℕ p n; bottom = d }
 difference-near p n d D =
     let r = rounds p n d D in
-    subst (λ (v : ℤ). Near v record { top = subℕ p n; bottom = d }) (sym (r .is)) (near p n d (r .up) (r .down) (r .not-over) (omega (arith, r .not-under)))
+    rw (r .is) (near p n d (r .up) (r .down) (r .not-over) (omega (arith, r .not-under)))
 
 pub rounded-near : (q : Ratio) → 0 < q .bottom → Near (rounded q) q
 rounded-near q D = by-sign (q .top)
   where
     by-sign : (t : ℤ) → Near (rounded record { top = t; bottom = q .bottom }) record { top = t; bottom = q .bottom }
-    by-sign (pos n) = subst (λ (t : ℤ). Near (rounded record { top = t; bottom = q .bottom }) record { top = t; bottom = q .bottom }) (sym (pos-sub n)) (difference-near n 0 (q .bottom) D)
-    by-sign (negsuc n) = subst (λ (t : ℤ). Near (rounded record { top = t; bottom = q .bottom }) record { top = t; bottom = q .bottom }) (sym (neg-sub (suc n))) (difference-near 0 (suc n) (q .bottom) D)
+    by-sign (pos n) = rw (pos-sub n) (difference-near n 0 (q .bottom) D)
+    by-sign (negsuc n) = rw (neg-sub (suc n)) (difference-near 0 (suc n) (q .bottom) D)

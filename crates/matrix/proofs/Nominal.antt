@@ -1,6 +1,6 @@
 -- The words of nominal codes are nominal, each within half a code of its fraction, and none is a timing code.
 -- Assumes nothing.
-use mathlib.Core.Path.{_≡_, sym, ap, _∙_, subst}
+use mathlib.Core.Path.{_≡_, sym, ap, _∙_}
 use mathlib.Core.Bool.{true, false}
 use Prim.Native.Nat.{ℕ, _+_, _*_, _-_, _≤_, _<_}
 use native.Mathlib.Nat.{add-mul}
@@ -105,11 +105,8 @@ module _ (x : Matrix) (s : ℕ) (c : Codes) (n : NominalCodes s c) where
       Near (pos (w .y)) (luma x c) × Near (pos (w .cb)) (cbOf x s c) × Near (pos (w .cr)) (crOf x s c)
   word-near =
       let w = words-whole in
-      let d = divisors x in (
-        subst (λ (z : ℤ). Near z (luma x c)) (sym (w .0)) (rounded-near (luma x c) (lit< tt)),
-        subst (λ (z : ℤ). Near z (cbOf x s c)) (sym (w .1)) (rounded-near (cbOf x s c) (d .cb)),
-        subst (λ (z : ℤ). Near z (crOf x s c)) (sym (w .2)) (rounded-near (crOf x s c) (d .cr)),
-      )
+      let d = divisors x in
+      (rw (w .0) (rounded-near (luma x c) (lit< tt)), rw (w .1) (rounded-near (cbOf x s c) (d .cb)), rw (w .2) (rounded-near (crOf x s c) (d .cr)))
 
 pub no-timing-code : (y : System) (c : Codes) → allWithin (nominal y) c ≡ true →
     let w = wordsAt (matrix y) (scale y) c in

@@ -3,7 +3,6 @@
 use mathlib.Core.Path.{_≡_, refl, sym, ap, _∙_}
 use mathlib.Core.Logic.{_⊎_, inl, inr}
 use Prim.Native.Nat.{ℕ, zero, suc, _+_, _*_, _-_, _≤_, _<_, zero-le}
-use native.Mathlib.Nat.{add-mul}
 use native.Mathlib.Omega.{arith}
 use borrow.Author.Tests.{lt-ltb, le-ltb}
 use lib.Dec.{le→leb}
@@ -52,7 +51,7 @@ sub-add a b c d = by-order (below-or-not a b) (below-or-not c d)
         let q : a - b + (c - d) + (b + d) ≡ a + c + 0 = omega arith in
         (λ i. sub-pos a b h i +ℤ sub-pos c d k i) ∙ pos-sub (a - b + (c - d)) ∙ sub-eq (a - b + (c - d)) 0 (a + c) (b + d) q
 
-pub negate-sub : (a b : ℕ) → negℤ (subℕ a b) ≡ subℕ b a
+negate-sub : (a b : ℕ) → negℤ (subℕ a b) ≡ subℕ b a
 negate-sub a b = elim (below-or-not a b) [
   | inl h ↦ let k : a ≤ b = omega arith in let q : suc (b - suc a) ≡ b - a = omega arith in ap negℤ (sub-neg a b h) ∙ ap pos q ∙ sym (sub-pos b a k)
   | inr h ↦ let q : 0 + a ≡ b + (a - b) = omega arith in ap negℤ (sub-pos a b h) ∙ neg-sub (a - b) ∙ sub-eq 0 (a - b) b a q
@@ -73,13 +72,13 @@ sub-mul a b k = elim (below-or-not a b) [
   | inl h ↦
       let x = suc (b - suc a) in
       let p : b ≡ x + a = omega arith in
-      let r : b * k ≡ x * k + a * k = ap (λ (n : ℕ). n * k) p ∙ add-mul x a k in
+      let r : b * k ≡ (x + a) * k = ap (λ (n : ℕ). n * k) p in
       let q : 0 + b * k ≡ a * k + x * k = omega arith in
       ap (λ (z : ℤ). z *ℤ pos k) (sub-neg a b h) ∙ neg-sub (x * k) ∙ sub-eq 0 (x * k) (a * k) (b * k) q
   | inr h ↦
       let x = a - b in
       let p : a ≡ x + b = omega arith in
-      let r : a * k ≡ x * k + b * k = ap (λ (n : ℕ). n * k) p ∙ add-mul x b k in
+      let r : a * k ≡ (x + b) * k = ap (λ (n : ℕ). n * k) p in
       let q : x * k + b * k ≡ a * k + 0 = omega arith in
       ap (λ (z : ℤ). z *ℤ pos k) (sub-pos a b h) ∙ pos-sub (x * k) ∙ sub-eq (x * k) 0 (a * k) (b * k) q
 ]

@@ -18,7 +18,7 @@ natAbs-neg (pos zero) = refl
 natAbs-neg (pos (suc n)) = refl
 natAbs-neg (negsuc n) = refl
 
-pub natAbs-mul : (a b : ℤ) → natAbs (a *ℤ b) ≡ natAbs a * natAbs b
+natAbs-mul : (a b : ℤ) → natAbs (a *ℤ b) ≡ natAbs a * natAbs b
 natAbs-mul (pos a) (pos b) = refl
 natAbs-mul (pos a) (negsuc b) = natAbs-neg (pos (a * suc b))
 natAbs-mul (negsuc a) (pos b) = natAbs-neg (pos (suc a * b))

@@ -3,7 +3,7 @@
 use mathlib.Core.Path.{_≡_, sym, ap, _∙_, subst}
 use mathlib.Core.Logic.{_⊎_, inl, inr}
 use Prim.Native.Nat.{ℕ, suc, _+_, _*_, _-_, _/_, _≤_, _<_}
-use native.Mathlib.Nat.{div-mul-le-self, lt-div-mul-add, div-eq-of-lt-le, lt-of-mul-lt-mul-right, mul-left-comm, add-mul, suc-mul, zero-mul}
+use native.Mathlib.Nat.{div-mul-le-self, lt-div-mul-add, div-eq-of-lt-le, lt-of-mul-lt-mul-right}
 use native.Mathlib.Omega.{arith}
 use lib.IntN.{ℤ, pos, negsuc, subℕ, _+ℤ_, _-ℤ_, _*ℤ_, *ℤ-comm}
 use lib.Signed.{shrZ, _≤ℤ_}
@@ -20,16 +20,13 @@ floor-is a b u v k K l h = by-order (below-or-not a b)
         let less : u < v = lt-of-mul-lt-mul-right k (omega arith) in
         let n = v - suc u in
         let e : v ≡ n + suc u = omega arith in
-        let f : v * k ≡ n * k + suc u * k = ap (λ (x : ℕ). x * k) e ∙ add-mul n (suc u) k in
-        let g : suc u * k ≡ u * k + k = suc-mul u k in
-        let i : (n + 1) * k ≡ n * k + 1 * k = add-mul n 1 k in
+        let f : v * k ≡ (n + suc u) * k = ap (λ (x : ℕ). x * k) e in
         ap (λ (z : ℤ). shrZ z k) (sub-neg a b m) ∙ ap negsuc (div-eq-of-lt-le k (omega arith) (omega arith)) ∙ sym (sub-neg u v less)
     by-order (inr m) =
-        let not-more : v < u + 1 = lt-of-mul-lt-mul-right k (omega (arith, add-mul u 1 k)) in
+        let not-more : v < u + 1 = lt-of-mul-lt-mul-right k (omega arith) in
         let n = u - v in
         let e : u ≡ n + v = omega arith in
-        let f : u * k ≡ n * k + v * k = ap (λ (x : ℕ). x * k) e ∙ add-mul n v k in
-        let i : (n + 1) * k ≡ n * k + 1 * k = add-mul n 1 k in
+        let f : u * k ≡ (n + v) * k = ap (λ (x : ℕ). x * k) e in
         ap (λ (z : ℤ). shrZ z k) (sub-pos a b m) ∙ ap pos (div-eq-of-lt-le k (omega arith) (omega arith)) ∙ sym (sub-pos u v (omega arith))
 
 -- v is INT of (p - n)/d, in naturals: v = up - down, and 2vd ≤ 2(p - n) + d < 2vd + 2d
@@ -53,9 +50,6 @@ rounds p n d D = subst (λ (z : ℤ). Rounds p n d (shrZ z (2 * d))) (sym double
         let q = a / (2 * d) in
         let l : q * (2 * d) ≤ a = div-mul-le-self a (2 * d) in
         let u : a < q * (2 * d) + 2 * d = lt-div-mul-add (omega arith) in
-        let e : q * (2 * d) ≡ 2 * (q * d) = mul-left-comm q 2 d in
-        let f : suc q * d ≡ q * d + d = suc-mul q d in
-        let z : 0 * d ≡ 0 = zero-mul d in
         record {
           up = 0;
           down = suc q;
@@ -68,8 +62,6 @@ rounds p n d D = subst (λ (z : ℤ). Rounds p n d (shrZ z (2 * d))) (sym double
         let q = a / (2 * d) in
         let l : q * (2 * d) ≤ a = div-mul-le-self a (2 * d) in
         let u : a < q * (2 * d) + 2 * d = lt-div-mul-add (omega arith) in
-        let e : q * (2 * d) ≡ 2 * (q * d) = mul-left-comm q 2 d in
-        let z : 0 * d ≡ 0 = zero-mul d in
         record {
           up = q;
           down = 0;
@@ -83,27 +75,27 @@ pub record Near (v : ℤ) (q : Ratio) : Type 0 where
   pub not-over : (pos 2 *ℤ (v *ℤ pos (q .bottom) -ℤ q .top)) ≤ℤ pos (q .bottom)
   pub not-under : (pos 2 *ℤ (q .top -ℤ v *ℤ pos (q .bottom))) ≤ℤ pos (q .bottom)
 
+-- twice what u - v is above p - n is at most d
+twice-above : (u v p n d : ℕ) → 2 * (u + n) ≤ 2 * (v + p) + d → (pos 2 *ℤ (subℕ u v -ℤ subℕ p n)) ≤ℤ pos d
+twice-above u v p n d h =
+    rw (sub-minus u v p n, *ℤ-comm (pos 2) (subℕ (u + n) (v + p)), sub-mul (u + n) (v + p) 2, pos-sub d)
+    (sub-le ((u + n) * 2) ((v + p) * 2) d 0 (omega arith))
+
 near : (p n d a b : ℕ) → 2 * (a * d) + 2 * n ≤ 2 * p + d + 2 * (b * d) → 2 * p + 2 * (b * d) ≤ 2 * (a * d) + 2 * n + d
     → Near (subℕ a b) record { top = subℕ p n; bottom = d }
 near p n d a b o u = record {
-  not-over = subst (λ (z : ℤ). z ≤ℤ pos d) (sym over) (subst (λ (z : ℤ). subℕ ((a * d + n) * 2) ((b * d + p) * 2) ≤ℤ z) (sym (pos-sub d)) (sub-le ((a * d + n) * 2) ((b * d + p) * 2) d 0 (omega arith)));
-  not-under = subst (λ (z : ℤ). z ≤ℤ pos d) (sym under) (subst (λ (z : ℤ). subℕ ((p + b * d) * 2) ((n + a * d) * 2) ≤ℤ z) (sym (pos-sub d)) (sub-le ((p + b * d) * 2) ((n + a * d) * 2) d 0 (omega arith)));
+  not-over = rw (sub-mul a b d) (twice-above (a * d) (b * d) p n d (omega arith));
+  not-under = rw (sub-mul a b d) (twice-above p n (a * d) (b * d) d (omega arith));
 }
-  where
-    over : pos 2 *ℤ (subℕ a b *ℤ pos d -ℤ subℕ p n) ≡ subℕ ((a * d + n) * 2) ((b * d + p) * 2)
-    over = ap (λ (z : ℤ). pos 2 *ℤ (z -ℤ subℕ p n)) (sub-mul a b d) ∙ ap (λ (z : ℤ). pos 2 *ℤ z) (sub-minus (a * d) (b * d) p n) ∙ *ℤ-comm (pos 2) (subℕ (a * d + n) (b * d + p)) ∙ sub-mul (a * d + n) (b * d + p) 2
-
-    under : pos 2 *ℤ (subℕ p n -ℤ subℕ a b *ℤ pos d) ≡ subℕ ((p + b * d) * 2) ((n + a * d) * 2)
-    under = ap (λ (z : ℤ). pos 2 *ℤ (subℕ p n -ℤ z)) (sub-mul a b d) ∙ ap (λ (z : ℤ). pos 2 *ℤ z) (sub-minus p n (a * d) (b * d)) ∙ *ℤ-comm (pos 2) (subℕ (p + b * d) (n + a * d)) ∙ sub-mul (p + b * d) (n + a * d) 2
 
 difference-near : (p n d : ℕ) → 0 < d → Near (rounded record { top = subℕ p n; bottom = d }) record { top = subℕ p n; bottom = d }
 difference-near p n d D =
     let r = rounds p n d D in
-    subst (λ (v : ℤ). Near v record { top = subℕ p n; bottom = d }) (sym (r .is)) (near p n d (r .up) (r .down) (r .not-over) (omega (arith, r .not-under)))
+    rw (r .is) (near p n d (r .up) (r .down) (r .not-over) (omega (arith, r .not-under)))
 
 pub rounded-near : (q : Ratio) → 0 < q .bottom → Near (rounded q) q
 rounded-near q D = by-sign (q .top)
   where
     by-sign : (t : ℤ) → Near (rounded record { top = t; bottom = q .bottom }) record { top = t; bottom = q .bottom }
-    by-sign (pos n) = subst (λ (t : ℤ). Near (rounded record { top = t; bottom = q .bottom }) record { top = t; bottom = q .bottom }) (sym (pos-sub n)) (difference-near n 0 (q .bottom) D)
-    by-sign (negsuc n) = subst (λ (t : ℤ). Near (rounded record { top = t; bottom = q .bottom }) record { top = t; bottom = q .bottom }) (sym (neg-sub (suc n))) (difference-near 0 (suc n) (q .bottom) D)
+    by-sign (pos n) = rw (pos-sub n) (difference-near n 0 (q .bottom) D)
+    by-sign (negsuc n) = rw (neg-sub (suc n)) (difference-near 0 (suc n) (q .bottom) D)

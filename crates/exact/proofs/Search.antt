@@ -47,7 +47,7 @@ module _ (p : ℕ → Bool) where
           same = omega arith
 
   -- it is within the bound
-  pub least-within : (n : ℕ) → least p n ≤ n
+  least-within : (n : ℕ) → least p n ≤ n
   unfolding least
   least-within zero = omega arith
   least-within (suc n) = go (p (least p n)) (least-within n)

@@ -70,24 +70,24 @@ clipped-within n v h = by-tests (ltZ v (pos (n .low))) (ltZ (pos (n .high)) v) r
     by-tests false true e f = (h, le-refl (n .high))
     by-tests false false e f = inside v (n .low) (n .high) e f
 
+-- 16s to 235s
+abbrev pub nominalAt : ℕ → Range
+nominalAt s = record { low = 16 * s; high = 235 * s }
+
 -- of any words at all
 pub clipped-at-most-three : (x : Matrix) (s : ℕ) (w : Words) → codesAt x s w .count ≤ 3
 unfolding codesAt
 clipped-at-most-three x s w =
-    let n : Range = record { low = 16 * s; high = 235 * s } in
-    let r : beyond n (rounded (redOf x s w)) ≤ 1 = beyond-at-most-one n (rounded (redOf x s w)) in
-    let g : beyond n (rounded (greenOf x s w)) ≤ 1 = beyond-at-most-one n (rounded (greenOf x s w)) in
-    let b : beyond n (rounded (blueOf x s w)) ≤ 1 = beyond-at-most-one n (rounded (blueOf x s w)) in
-    omega arith
+    let one = beyond-at-most-one (nominalAt s) in
+    omega (arith, one (rounded (redOf x s w)), one (rounded (greenOf x s w)), one (rounded (blueOf x s w)))
 
 pub codes-nominal : (x : Matrix) (s : ℕ) (w : Words) → NominalCodes s (codesAt x s w .codes)
 unfolding codesAt
 codes-nominal x s w =
-    let n : Range = record { low = 16 * s; high = 235 * s } in
-    let h : 16 * s ≤ 235 * s = omega arith in
-    let r = clipped-within n (rounded (redOf x s w)) h in
-    let g = clipped-within n (rounded (greenOf x s w)) h in
-    let b = clipped-within n (rounded (blueOf x s w)) h in
+    let within : (v : ℤ) → (16 * s ≤ clipped (nominalAt s) v) × (clipped (nominalAt s) v ≤ 235 * s) = λ v. clipped-within (nominalAt s) v (omega arith) in
+    let r = within (rounded (redOf x s w)) in
+    let g = within (rounded (greenOf x s w)) in
+    let b = within (rounded (blueOf x s w)) in
     record { r-low = r .0; r-high = r .1; g-low = g .0; g-high = g .1; b-low = b .0; b-high = b .1 }
 
 -- ---- what clipping does to a component that is near a code of the range
@@ -119,5 +119,4 @@ pub kept-whole : (n : Range) (v : ℤ) (d : ℕ) → n .low ≤ d → d ≤ n .h
 kept-whole n v d l h e =
     let low : ltZ v (pos (n .low)) ≡ false = ap (λ (z : ℤ). ltZ z (pos (n .low))) e ∙ le-ltb d (n .low) l in
     let high : ltZ (pos (n .high)) v ≡ false = ap (λ (z : ℤ). ltZ (pos (n .high)) z) e ∙ le-ltb (n .high) d h in
-    let kept : clipped n v ≡ whole v = λ i. elim (low i) [ true ↦ n .low | false ↦ elim (high i) [ true ↦ n .high | false ↦ whole v ] ] in
-    (kept ∙ ap whole e, λ i. elim (low i) [ true ↦ 1 | false ↦ elim (high i) [ true ↦ 1 | false ↦ 0 ] ])
+    (sym (clipped-by n v false false low high) ∙ ap whole e, sym (beyond-by n v false false low high))

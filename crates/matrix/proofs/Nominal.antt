@@ -1,6 +1,6 @@
 -- The words of nominal codes are nominal, each within half a code of its fraction, and none is a timing code.
 -- Assumes nothing.
-use mathlib.Core.Path.{_≡_, sym, ap, _∙_, subst}
+use mathlib.Core.Path.{_≡_, sym, ap, _∙_}
 use mathlib.Core.Bool.{true, false}
 use Prim.Native.Nat.{ℕ, _+_, _*_, _-_, _≤_, _<_}
 use native.Mathlib.Nat.{add-mul}
@@ -15,7 +15,7 @@ use Rattle.systems.specs.declared.Codes.{Codes}
 use Rattle.systems.specs.declared.Matrix.{Matrix}
 use Rattle.systems.specs.declared.Matrix.the-variants.{Bt709, Bt2020}
 use Rattle.systems.specs.declared.System.{System}
-use Rattle.systems.specs.Systems.{matrix, scale, kr, kb, nominal, allWithin, timing}
+use Rattle.systems.specs.Systems.{matrix, scale, kr, kg, kb, nominal, allWithin, timing}
 use Rattle.systems.proofs.Scales.{scale-range}
 use Rattle.matrix.specs.Triples.{weighted, luma, cbOf, crOf, whole, wordsAt}
 use Rattle.matrix.specs.Inner.{NominalCodes, NominalWords}
@@ -31,8 +31,8 @@ pub record Word (p n d low high : ℕ) (z : ℤ) : Type 0 where
   pub at-least : low ≤ value
   pub at-most : value ≤ high
 
-word : (p n d low high : ℕ) (z : ℤ) (r : Rounds p n d z) → r .down + low ≤ r .up → r .up ≤ r .down + high → Word p n d low high z
-word p n d low high z r l h =
+word : {p n d low high : ℕ} {z : ℤ} (r : Rounds p n d z) → r .down + low ≤ r .up → r .up ≤ r .down + high → Word p n d low high z
+word {d = d} r l h =
     let v = r .up - r .down in
     let e : r .up ≡ v + r .down = omega arith in
     let q : r .up * d ≡ v * d + r .down * d = ap (λ (k : ℕ). k * d) e ∙ add-mul v (r .down) d in
@@ -47,9 +47,15 @@ word p n d low high z r l h =
       at-most = omega arith;
     }
 
-divisors : (x : Matrix) → (0 < 219 * 2 * (10000 - kb x)) × (0 < 219 * 2 * (10000 - kr x))
-divisors Bt709 = (lit< tt, lit< tt)
-divisors Bt2020 = (lit< tt, lit< tt)
+-- no fraction is over 0
+pub record Divisors (x : Matrix) : Type 0 where
+  pub cb : 0 < 219 * 2 * (10000 - kb x)
+  pub cr : 0 < 219 * 2 * (10000 - kr x)
+  pub green : 0 < 224 * 10000 * kg x
+
+pub divisors : (x : Matrix) → Divisors x
+divisors Bt709 = record { cb = lit< tt; cr = lit< tt; green = lit< tt }
+divisors Bt2020 = record { cb = lit< tt; cr = lit< tt; green = lit< tt }
 
 untimed : (y : System) (d : ℕ) → 16 * scale y ≤ d → d ≤ 240 * scale y → timing y d ≡ false
 untimed y d l h =
@@ -69,12 +75,12 @@ words-of Bt709 s c n =
     let y = luma-rounds Bt709 c in
     let b = difference-rounds Bt709 (128 * s) (kb Bt709) (c .b) c (lit< tt) in
     let r = difference-rounds Bt709 (128 * s) (kr Bt709) (c .r) c (lit< tt) in
-    record { y = word _ _ _ _ _ _ y (omega arith) (omega arith); cb = word _ _ _ _ _ _ b (omega arith) (omega arith); cr = word _ _ _ _ _ _ r (omega arith) (omega arith) }
+    record { y = word y (omega arith) (omega arith); cb = word b (omega arith) (omega arith); cr = word r (omega arith) (omega arith) }
 words-of Bt2020 s c n =
     let y = luma-rounds Bt2020 c in
     let b = difference-rounds Bt2020 (128 * s) (kb Bt2020) (c .b) c (lit< tt) in
     let r = difference-rounds Bt2020 (128 * s) (kr Bt2020) (c .r) c (lit< tt) in
-    record { y = word _ _ _ _ _ _ y (omega arith) (omega arith); cb = word _ _ _ _ _ _ b (omega arith) (omega arith); cr = word _ _ _ _ _ _ r (omega arith) (omega arith) }
+    record { y = word y (omega arith) (omega arith); cb = word b (omega arith) (omega arith); cr = word r (omega arith) (omega arith) }
 
 pub words-are : (x : Matrix) (s : ℕ) (c : Codes) (v : WordsOf x s c) → wordsAt x s c ≡ record { y = v .y .value; cb = v .cb .value; cr = v .cr .value }
 unfolding wordsAt
@@ -99,11 +105,8 @@ module _ (x : Matrix) (s : ℕ) (c : Codes) (n : NominalCodes s c) where
       Near (pos (w .y)) (luma x c) × Near (pos (w .cb)) (cbOf x s c) × Near (pos (w .cr)) (crOf x s c)
   word-near =
       let w = words-whole in
-      let d = divisors x in (
-        subst (λ (z : ℤ). Near z (luma x c)) (sym (w .0)) (rounded-near (luma x c) (lit< tt)),
-        subst (λ (z : ℤ). Near z (cbOf x s c)) (sym (w .1)) (rounded-near (cbOf x s c) (d .0)),
-        subst (λ (z : ℤ). Near z (crOf x s c)) (sym (w .2)) (rounded-near (crOf x s c) (d .1)),
-      )
+      let d = divisors x in
+      (rw (w .0) (rounded-near (luma x c) (lit< tt)), rw (w .1) (rounded-near (cbOf x s c) (d .cb)), rw (w .2) (rounded-near (crOf x s c) (d .cr)))
 
 pub no-timing-code : (y : System) (c : Codes) → allWithin (nominal y) c ≡ true →
     let w = wordsAt (matrix y) (scale y) c in

@@ -4,24 +4,14 @@ use mathlib.Core.Path.{_≡_}
 use mathlib.Core.Bool.{true}
 use Prim.Native.Nat.{ℕ, _≤_}
 use native.Mathlib.Omega.{arith}
-use lib.Dec.{leb, leb→le}
-use lib.Ieee.Fits.{and-l, and-r}
-use Rattle.exact.proofs.Boolean.{holds, each-of-three}
+use Rattle.exact.proofs.Boolean.{each-of-three}
 use Rattle.systems.specs.declared.Codes.{Codes}
-use Rattle.systems.specs.declared.Range.{Range}
 use Rattle.systems.specs.declared.System.{System}
-use Rattle.systems.specs.Systems.{scale, nominal, nominalDifference, within, allWithin}
-use Rattle.systems.proofs.Ranges.{all-nominal}
+use Rattle.systems.specs.Systems.{scale, nominal, nominalDifference, allWithin}
+use Rattle.systems.proofs.Ranges.{in-range, all-nominal}
 use Rattle.matrix.specs.declared.Words.{Words}
 use Rattle.matrix.specs.Triples.{wordsWithin}
 use Rattle.matrix.specs.Inner.{NominalCodes, NominalWords, TwelveBitWords}
-
-in-range : (n : Range) (d : ℕ) → within n d ≡ true → (n .low ≤ d) × (d ≤ n .high)
-in-range n d e =
-    let low = leb (n .low) d in
-    let high = leb d (n .high) in
-    let t = holds e in
-    (leb→le (n .low) d (and-l low high t), leb→le d (n .high) (and-r low high t))
 
 pub nominal-codes : (y : System) (c : Codes) → allWithin (nominal y) c ≡ true → NominalCodes (scale y) c
 nominal-codes y c e =
@@ -30,7 +20,7 @@ nominal-codes y c e =
 
 pub nominal-words : (y : System) (w : Words) → wordsWithin y w ≡ true → NominalWords (scale y) w
 nominal-words y w e =
-    let t = each-of-three (within (nominal y) (w .y)) (within (nominalDifference y) (w .cb)) (within (nominalDifference y) (w .cr)) e in
+    let t = each-of-three _ _ _ e in
     let n = in-range (nominal y) (w .y) (t .0) in
     let b = in-range (nominalDifference y) (w .cb) (t .1) in
     let r = in-range (nominalDifference y) (w .cr) (t .2) in

@@ -13,8 +13,9 @@ use Rattle.exact.specs.Outcome as outcome
 use Rattle.exact.specs.Outcome.{Outcome}
 use Rattle.systems.specs.Systems.{number}
 use Rattle.block.specs.Read.{headerOf, sliceAfter}
-use Rattle.row.specs.Row.{rowBlock}
 use Rattle.block.specs.Block.{size}
+use Rattle.row.specs.Row.{rowBlock}
+use Rattle.row.proofs.Written.{length-row-block}
 use Rattle.picture.specs.declared.Opened.{Opened}
 use Rattle.picture.specs.declared.Phase.{Phase}
 use Rattle.picture.specs.declared.Phase.the-variants.{Fresh, Open, Closed}
@@ -26,7 +27,7 @@ use Rattle.picture.proofs.Calls.{Label, Card, Lent, Lights, Ran, ends, 
 use Rattle.picture.proofs.Card.{heardOf, labelOf, Opens, by-open, Rows, by-row, Closes, by-close, Reads, by-read-block, card}
 use Rattle.picture.proofs.Claims.{ReadsBack, Blocks, none, one, keptBy, kept, Unchanged, stateOf, stateFrom, Demanded, Proper}
 use Rattle.picture.proofs.Faithful.{Follows, Faithful}
-use Rattle.picture.proofs.Rows.{block-size, reads-back}
+use Rattle.picture.proofs.Rows.{reads-back}
 use Rattle.picture.proofs.Steps.{InStep, open-step, row-step, close-step}
 
 -- ---- what a row leaves in its buffer
@@ -58,7 +59,7 @@ row-keeps {card} does (Open o) lights out g l =
     (λ c.
     let lt = ltb-true (o .rows) (o .height) a in
     let numbered : o .rows ≤ 4319 = omega (arith, g .height-to) in
-    let long = block-size (o .system) (o .rows) (o .width) lights (g .width-from) (g .width-to) numbered in
+    let long = length-row-block (o .system) (o .rows) (o .width) lights in
     let back = reads-back (o .system) (o .rows) (o .width) lights (g .width-from) (g .width-to) numbered does l in
     let entry : Entry = record { system = number (o .system); width = o .width; row = o .rows; lights = lights } in
     let made : List ℕ = rowBlock (o .system) (o .rows) (o .width) lights in
@@ -80,31 +81,28 @@ pub record After (card : Card) (p : Picture) (cs : List Call) (hs : List Heard) 
   pub proper : Proper (q .phase)
 
 module _ {card : Card} {p p′ q : Picture} {c : Call} {heard : Heard} {cs : List Call} {hs : List Heard} {ls : List Lent} (i : InStep p c heard p′) where
-  -- an open or a close: no buffer, no entry
-  call-then : entered (stateOf (p .phase)) c ≡ [] → After card p′ cs hs ls q → After card p (c ∷ cs) (heard ∷ hs) ls q
+  -- with the buffers ms in all
+  then : {ms : List Lent} → Unchanged ms → Blocks card (kept ms) (entered (stateOf (p .phase)) c ++ entriesFrom (stateOf (p′ .phase)) cs)
+      → After card p′ cs hs ls q → After card p (c ∷ cs) (heard ∷ hs) ms q
   unfolding heardFrom entriesFrom stateFrom
-  call-then e k = record {
+  then u b k = record {
     demanded = record {
       heard = rw (← i .leads-on, ← i .same) (ap (λ (l : List Heard). heard ∷ l) (k .demanded .heard));
       state = rw (← i .leads-on) (k .demanded .state);
-      unchanged = k .demanded .unchanged;
-      blocks = rw (e, ← i .leads-on) (k .demanded .blocks);
+      unchanged = u;
+      blocks = rw (← i .leads-on) b;
     };
     proper = k .proper;
   }
 
+  -- an open or a close: no buffer, no entry
+  call-then : entered (stateOf (p .phase)) c ≡ [] → After card p′ cs hs ls q → After card p (c ∷ cs) (heard ∷ hs) ls q
+  call-then e k = then (k .demanded .unchanged) (rw e (k .demanded .blocks)) k
+
   row-then : {l : Lent} → ((n : ℕ) → l .heard ≡ refused n → l .after ≡ l .before) → Blocks card (keptBy (l .heard) l) (entered (stateOf (p .phase)) c)
       → After card p′ cs hs ls q → After card p (c ∷ cs) (heard ∷ hs) (l ∷ ls) q
-  unfolding heardFrom entriesFrom stateFrom kept Unchanged
-  row-then u b k = record {
-    demanded = record {
-      heard = rw (← i .leads-on, ← i .same) (ap (λ (l : List Heard). heard ∷ l) (k .demanded .heard));
-      state = rw (← i .leads-on) (k .demanded .state);
-      unchanged = (u, k .demanded .unchanged);
-      blocks = blocks-append b (rw (← i .leads-on) (k .demanded .blocks));
-    };
-    proper = k .proper;
-  }
+  unfolding kept Unchanged
+  row-then u b k = then (u, k .demanded .unchanged) (blocks-append b (k .demanded .blocks)) k
 
 no-entry : (t : Bool) → choose {A = List Entry} t [] [] ≡ []
 no-entry true = refl

@@ -1,4 +1,3 @@
-mod Ranges
 pub mod Agreement
 pub mod Calls
 pub mod Card

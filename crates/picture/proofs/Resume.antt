@@ -5,20 +5,20 @@ use mathlib.Core.Bool.{Bool, true, false}
 use lib.Dec.{leb}
 use borrow.Author.Tests.{le-leb, leb-true}
 use Rattle.exact.proofs.Boolean.{each-of-three}
+use Rattle.systems.proofs.Ranges.{in-range}
 use Rattle.block.specs.Read.{widthOk}
 use Rattle.picture.specs.declared.Opened.{Opened}
 use Rattle.picture.specs.declared.Phase.{Phase}
 use Rattle.picture.specs.declared.Phase.the-variants.{Fresh, Open, Closed}
 use Rattle.picture.specs.Picture.{at, heightOk, proper, resumedIf, resumed}
-use Rattle.picture.proofs.Ranges.{in-range}
 use Rattle.picture.proofs.Claims.{Sized, Proper}
 
 proper-sized : (o : Opened) → proper o ≡ true → Sized o
 unfolding proper
 proper-sized o e =
     let three = each-of-three (widthOk (o .width)) (heightOk (o .height)) (leb (o .rows) (o .height)) e in
-    let w = in-range (o .width) 1 7680 (three .0) in
-    let h = in-range (o .height) 1 4320 (three .1) in
+    let w = in-range (record { low = 1; high = 7680 }) (o .width) (three .0) in
+    let h = in-range (record { low = 1; high = 4320 }) (o .height) (three .1) in
     record { width-from = w .0; width-to = w .1; height-from = h .0; height-to = h .1; rows-to = leb-true (o .rows) (o .height) (three .2) }
 
 sized-proper : (o : Opened) → Sized o → proper o ≡ true

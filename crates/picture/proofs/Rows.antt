@@ -17,7 +17,6 @@ use Rattle.systems.specs.Systems.{number, matrix, scale, nominal, allWithin}
 use Rattle.systems.proofs.Scales.{named-number}
 use Rattle.systems.proofs.Ranges.{Nominal}
 use Rattle.curve.specs.Curve.{code}
-use Rattle.curve.proofs.Lights.{code-low, code-high}
 use Rattle.matrix.specs.declared.Clipped.{Clipped}
 use Rattle.matrix.specs.declared.Words.{Words}
 use Rattle.matrix.specs.Inner.{NominalCodes, NominalWords}
@@ -29,9 +28,11 @@ use Rattle.block.specs.declared.Header.{Header}
 use Rattle.block.specs.Block.{sampleOf}
 use Rattle.block.specs.Read.{sampleAt, decoded, codesTo, clippedTo, headerOf, sliceAfter}
 use Rattle.block.proofs.Decoding.{length-codes}
-use Rattle.block.proofs.ReadBack.{NominalRow, block-length, block-samples, block-reads-back, block-decodes-back}
+use Rattle.block.proofs.ReadBack.{NominalRow, block-samples, block-reads-back, block-decodes-back}
 use Rattle.row.specs.Row.{sampleCodes, sampleWords, listed, rowBlock}
 use Rattle.row.proofs.Sections.{length-listed}
+use Rattle.row.proofs.Samples.{lights-nominal}
+use Rattle.row.proofs.Written.{length-row-block}
 use Rattle.picture.proofs.Calls.{Card, Lights}
 use Rattle.picture.proofs.Card.{labelOf}
 use Rattle.picture.proofs.Claims.{WithinOne, ReadCode, StoredSample, codesOf, ReadsBack}
@@ -107,8 +108,12 @@ module _ (y : System) (lights : List ℕ) (i : ℕ) where
   abbrev c : Codes
   c = sampleCodes y lights i
 
+  -- the claim says of its own which codes a sample has, apart from the row's contract, and says the same
+  codes-agree : codesOf y lights i ≡ c
+  codes-agree = refl
+
   sample-nominal : NominalCodes (scale y) c
-  sample-nominal = record { r-low = code-low y _; r-high = code-high y _; g-low = code-low y _; g-high = code-high y _; b-low = code-low y _; b-high = code-high y _ }
+  sample-nominal = lights-nominal y _ _ _ refl
 
   sample-passes : wordsWithin y (sampleWords y lights i) ≡ true
   unfolding sampleWords
@@ -130,7 +135,7 @@ module _ (y : System) (lights : List ℕ) (i : ℕ) where
   sample-returns =
       let back = codes-return-within-one (matrix y) (scale y) c sample-nominal in
       let n = codes-nominal (matrix y) (scale y) (wordsAt (matrix y) (scale y) c) in
-      (((back .r-over, back .r-under), (n .r-low, n .r-high)), ((back .g-over, back .g-under), (n .g-low, n .g-high)), ((back .b-over, back .b-under), (n .b-low, n .b-high)))
+      ((back .r, (n .r-low, n .r-high)), (back .g, (n .g-low, n .g-high)), (back .b, (n .b-low, n .b-high)))
 
 -- ---- a row of w samples, numbered r
 
@@ -160,10 +165,6 @@ module _ (y : System) (r w : ℕ) (lights : List ℕ) (some : 1 ≤ w) (most : w
     cr-count = length-listed _ w;
     nominal = λ i h. ap (wordsWithin y) (samples i h) ∙ sample-passes y lights i;
   }
-
-  pub block-size : length (rowBlock y r w lights) ≡ 9 + 6 * w
-  unfolding rowBlock
-  block-size = block-length (number y) r w y ys cbs crs nominal-row
 
   words : (i : ℕ) → i < w → StoredSample y (codesOf y lights i) (sampleAt (rowBlock y r w lights) w i)
   unfolding rowBlock
@@ -199,7 +200,7 @@ module _ (y : System) (r w : ℕ) (lights : List ℕ) (some : 1 ≤ w) (most : w
   reads-back does lit = record {
     system = y;
     numbered = refl;
-    size = block-size;
+    size = length-row-block y r w lights;
     words = words;
     reads = λ {slice} room given. record {
       told = does .reads given .0 ∙ ap labelOf (heard (length slice) room);

@@ -1,31 +1,25 @@
 -- What the stores of a head and of a sample make, and what a turn of either matrix's loop has in hand.
 -- Assumes nothing.
-use mathlib.Core.Path.{_≡_, ap, _∙_}
+use mathlib.Core.Path.{_≡_, refl, _∙_}
 use mathlib.Core.List.{List}
-use Prim.Native.Nat.{ℕ, _+_, _*_, _≤_}
+use Prim.Native.Nat.{ℕ, _+_, _*_, _≤_, _<_, zero-le}
 use native.Mathlib.Numerals.{add-one}
-use lib.ListN.{set}
+use native.Mathlib.Omega.{arith}
+use lib.ListN.{length, set}
 use Rattle.systems.specs.declared.Codes.{Codes}
-use Rattle.systems.specs.declared.Matrix.{Matrix}
 use Rattle.systems.specs.declared.System.{System}
-use Rattle.systems.specs.Systems.{matrix, scale}
+use Rattle.systems.specs.Systems.{scale}
+use Rattle.curve.specs.Curve.{code}
 use Rattle.curve.proofs.Lights.{code-low, code-high}
 use Rattle.matrix.specs.declared.Words.{Words}
-use Rattle.matrix.specs.Triples.{wordsAt}
 use Rattle.matrix.specs.Inner.{NominalCodes}
-use Rattle.row.specs.Row.{sampleCodes, sampleWords}
+use Rattle.row.specs.Row.{sampleWords}
 use Rattle.row.specs.Inner.{put, headed, worded, stored}
 
--- the codes of a sample's lights are nominal
-pub sample-nominal : (y : System) (lights : List ℕ) (i : ℕ) {c : Codes} → c ≡ sampleCodes y lights i → NominalCodes (scale y) c
-sample-nominal y lights i same-codes =
-    rw same-codes record { r-low = code-low y _; r-high = code-high y _; g-low = code-low y _; g-high = code-high y _; b-low = code-low y _; b-high = code-high y _ }
-
--- the words of a sample's codes by the system's matrix are the sample's
-pub sample-words : (y : System) (lights : List ℕ) (i : ℕ) {c : Codes} {x : Matrix} {r : Words}
-    → matrix y ≡ x → c ≡ sampleCodes y lights i → r ≡ wordsAt x (scale y) c → r ≡ sampleWords y lights i
-unfolding sampleWords
-sample-words y lights i same-matrix same-codes made = cc
+-- the codes of three lights are nominal
+pub lights-nominal : (y : System) (j k l : ℕ) {c : Codes} → c ≡ record { r = code y j; g = code y k; b = code y l } → NominalCodes (scale y) c
+lights-nominal y j k l e =
+    rw e record { r-low = code-low y j; r-high = code-high y j; g-low = code-low y k; g-high = code-high y k; b-low = code-low y l; b-high = code-high y l }
 
 -- the stores of a head, one after another
 pub head-put : (n row w : ℕ) (d d₁ d₂ d₃ d₄ d₅ : List ℕ)
@@ -41,7 +35,22 @@ pub words-put : (w i : ℕ) (x : Words) (d d₁ d₂ d₃ : List ℕ)
 unfolding worded
 words-put w i x d d₁ d₂ d₃ e₁ e₂ e₃ = cc
 
--- one sample more
-pub stored-more : (words : ℕ → Words) (w i : ℕ) (d₀ d e : List ℕ) → d ≡ stored words w d₀ i → e ≡ worded w i (words i) d → e ≡ stored words w d₀ (i + 1)
+-- after i turns of a row's loop, by either matrix: the words of the first i samples of n are stored
+pub record StoredTo (y : System) (lights : List ℕ) (w : ℕ) (d₀ : List ℕ) (n : ℕ) (d : List ℕ) (i : ℕ) : Type 0 where
+  pub all : n ≡ w
+  pub so-far : i ≤ n
+  pub same-length : length d ≡ length d₀
+  pub stores : d ≡ stored (sampleWords y lights) w d₀ i
+
+pub none-stored : {y : System} {lights : List ℕ} {w : ℕ} {d : List ℕ} → StoredTo y lights w d w d 0
 unfolding stored
-stored-more words w i d₀ d e before turn = rw (add-one i) (turn ∙ ap (worded w i (words i)) before)
+none-stored = record { all = refl; so-far = zero-le; same-length = refl; stores = refl }
+
+pub one-more-stored : {y : System} {lights : List ℕ} {w n i : ℕ} {d₀ d e : List ℕ}
+    → StoredTo y lights w d₀ n d i → i < n → length e ≡ length d → e ≡ worded w i (sampleWords y lights i) d → StoredTo y lights w d₀ n e (i + 1)
+unfolding stored
+one-more-stored {i = i} before h l turn =
+    record { all = before .all; so-far = omega arith; same-length = l ∙ before .same-length; stores = rw (add-one i) (cc) }
+
+pub all-stored : {y : System} {lights : List ℕ} {w n i : ℕ} {d₀ d : List ℕ} → StoredTo y lights w d₀ n d i → n ≤ i → d ≡ stored (sampleWords y lights) w d₀ w
+all-stored {w = w} {i = i} at h = let e : i ≡ w = omega arith in cc

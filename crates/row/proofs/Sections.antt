@@ -6,7 +6,7 @@ use Prim.Native.Nat.{ℕ, zero, suc, _+_, _*_, _/_, _%_, _≤_, _<_}
 use native.Mathlib.Omega.{arith}
 use lib.ListN.{length, set, getD, take, drop, length-append, length-drop, take-append-drop, drop-of-length-le}
 use lib.Seq.{set-at, drop-drop, drop-cons}
-use Rattle.block.specs.Block.{field, fields, section, block}
+use Rattle.block.specs.Block.{field, fields}
 use Rattle.row.specs.Row.{listed}
 use Rattle.row.specs.Inner.{put}
 
@@ -17,27 +17,15 @@ unfolding listed
 length-listed f zero = refl
 length-listed f (suc n) = simp length-append (omega (arith, length-listed f n))
 
-pub fields-append : (a b : List ℕ) → fields (a ++ b) ≡ fields a ++ fields b
+fields-append : (a b : List ℕ) → fields (a ++ b) ≡ fields a ++ fields b
 unfolding fields
 fields-append [] b = refl
 fields-append (x ∷ a) b = ap (λ (l : List ℕ). field x ++ l) (fields-append a b)
 
-pub length-fields : (a : List ℕ) → length (fields a) ≡ 2 * length a
+length-fields : (a : List ℕ) → length (fields a) ≡ 2 * length a
 unfolding fields
 length-fields [] = refl
 length-fields (x ∷ a) = omega (arith, length-fields a)
-
-length-section : (a : List ℕ) → length (section a) ≡ 2 + 2 * length a
-unfolding section
-length-section a = omega (arith, length-fields a)
-
-length-four : (a b c d : List ℕ) → length (a ++ b ++ c ++ d) ≡ length a + length b + length c + length d
-length-four a b c d = simp length-append
-
-pub length-block : (n row : ℕ) (ys cbs crs : List ℕ) → length (block n row ys cbs crs) ≡ 9 + 2 * (length ys + length cbs + length crs)
-unfolding block
-length-block n row ys cbs crs =
-    omega (arith, length-four (n ∷ field row) (section ys) (section cbs) (section crs), length-section ys, length-section cbs, length-section crs)
 
 -- ---- a list cut at a place
 

@@ -1,7 +1,7 @@
 -- The stores of a row make its block in front of what stays.
 -- Assumes nothing.
 use mathlib.Core.Path.{_≡_, refl, sym, ap, _∙_}
-use mathlib.Core.List.{List, [], _∷_, _++_, append-assoc}
+use mathlib.Core.List.{List, _∷_, _++_, append-assoc}
 use Prim.Native.Nat.{ℕ, zero, suc, _+_, _*_, _≤_, _<_}
 use native.Mathlib.Nat.{le-refl}
 use native.Mathlib.Omega.{arith}
@@ -11,9 +11,10 @@ use Rattle.systems.specs.declared.System.{System}
 use Rattle.systems.specs.Systems.{number}
 use Rattle.matrix.specs.declared.Words.{Words}
 use Rattle.block.specs.Block.{field, fields, section, block}
+use Rattle.block.proofs.Bytes.{block-fields}
 use Rattle.row.specs.Row.{listed, sampleWords, rowBlock}
 use Rattle.row.specs.Inner.{put, headed, worded, stored}
-use Rattle.row.proofs.Sections.{length-listed, length-block, part, part-all, part-more, length-part, gap-at, pair-at, put-at}
+use Rattle.row.proofs.Sections.{length-listed, part, part-all, part-more, length-part, gap-at, pair-at, put-at}
 
 -- what stands behind three lists, and behind five
 behind-3 : (a b c q : List ℕ) → a ++ b ++ c ++ q ≡ a ++ (b ++ (c ++ q))
@@ -108,7 +109,7 @@ module _ (words : ℕ → Words) (n row w : ℕ) (ys cbs crs rest : List ℕ)
       (sym (behind-3 (fields (listed (λ m. words m .y) w)) (field w ++ fields (listed (λ m. words m .cb) w)) (field w ++ fields (listed (λ m. words m .cr) w)) rest))))
 
 -- a row's stores make its block in every buffer that has room for it
-pub row-stored : (words : ℕ → Words) (n row w : ℕ) (d : List ℕ) → 9 + 6 * w ≤ length d
+row-stored : (words : ℕ → Words) (n row w : ℕ) (d : List ℕ) → 9 + 6 * w ≤ length d
     → stored words w (headed n row w d) w
     ≡ block n row (listed (λ m. words m .y) w) (listed (λ m. words m .cb) w) (listed (λ m. words m .cr) w) ++ drop (9 + 6 * w) d
 row-stored words n row w d h =
@@ -147,8 +148,4 @@ row-written y row w lights d d₁ d₂ h begun done =
 -- a row of w samples takes 9 + 6w bytes
 pub length-row-block : (y : System) (row w : ℕ) (lights : List ℕ) → length (rowBlock y row w lights) ≡ 9 + 6 * w
 unfolding rowBlock
-length-row-block y row w lights =
-    let luma : ℕ → ℕ = λ i. sampleWords y lights i .y in
-    let blue : ℕ → ℕ = λ i. sampleWords y lights i .cb in
-    let red : ℕ → ℕ = λ i. sampleWords y lights i .cr in
-    omega (arith, length-block (number y) row (listed luma w) (listed blue w) (listed red w), length-listed luma w, length-listed blue w, length-listed red w)
+length-row-block y row w lights = block-fields (number y) row w _ _ _ (length-listed _ w) (length-listed _ w) (length-listed _ w) .size

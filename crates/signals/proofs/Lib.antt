@@ -2,5 +2,4 @@ pub mod Unit
 pub mod Exact
 pub mod Halves
 pub mod Quotient
-pub mod Triple
 pub mod Return

@@ -12,7 +12,9 @@ use lib.Ieee.{Float, nan, inf, fin, up, down, le, isNan}
 use lib.Ieee.Fits.{up-pos, down-pos}
 use lib.Ieee.Positive.{num, den}
 use borrow.Author.Tests.{lt-ltb, le-leb, lt-leb, eq-eqb, ne-eqb, ltb-true, ltb-false}
-use Rattle.signals.specs.Signals.{inUnit}
+use Rattle.exact.proofs.Boolean.{holds, each-of-three}
+use Rattle.signals.specs.declared.Signals.{Signals}
+use Rattle.signals.specs.Signals.{inUnit, allInUnit}
 
 below-or-equal : (a b : ℕ) → (ltb a b || (eqb a b && true)) ≡ leb a b
 below-or-equal a b = go (ltb a b) (ltb-true a b) (ltb-false a b)
@@ -56,3 +58,9 @@ unit-at-most-one nan t = absurd t
 unit-at-most-one (inf s) t = absurd t
 unit-at-most-one (fin true m e) t = rw (eqb→eq m 0 t, zero-mul) zero-le
 unit-at-most-one (fin false m e) t = leb→le (m * up e) (down e) t
+
+-- what passes of a triple passes of each
+pub each-in-unit : (e : Signals) → allInUnit e ≡ true → T (inUnit (e .r)) × T (inUnit (e .g)) × T (inUnit (e .b))
+each-in-unit e h =
+    let t = each-of-three (inUnit (e .r)) (inUnit (e .g)) (inUnit (e .b)) h in
+    (holds (t .0), holds (t .1), holds (t .2))

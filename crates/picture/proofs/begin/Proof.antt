@@ -4,18 +4,6 @@ use Rattle.picture.specs.Picture.{begin}
 use Rattle.picture.proofs.begin.Statement.{statement}
 use Rattle.picture.proofs.begin.Tie as tie
 
-from-number-requires : tie.Need-from-number-requires
-from-number-requires c κs = search needs
-
-enum-known-y : tie.Need-enum-known-y
-enum-known-y c = search needs
-
-begin-in-requires : tie.Need-begin-in-requires
-begin-in-requires c κs = search needs
-
-enum-told : tie.Need-enum-told
-enum-told c = search needs
-
 returns : tie.Need-returns
 unfolding begin
 returns c =
@@ -27,6 +15,4 @@ unfolding begin
 returns-2 c = rw (sym (c .before .before .from-number .ensures), c .enum-told .given .1)
 
 pub begin-spec : {M : Type 1} → statement M
-begin-spec =
-    tie.close
-    (tie.spec from-number-requires enum-known-y begin-in-requires enum-told returns returns-2)
+begin-spec = tie.close (tie.spec (λ c κs. search needs) (λ c. search needs) (λ c κs. search needs) (λ c. search needs) returns returns-2)

@@ -1,18 +1,12 @@
 use mathlib.Core.Path.{sym, _∙_}
 use borrow.Author.Tests.{not-true, not-false}
 use borrow.Author.Needs.{needs}
-use Rattle.picture.proofs.Ranges.{in-range}
+use Rattle.systems.proofs.Ranges.{in-range}
 use Rattle.picture.proofs.begin_in.Statement.{statement}
 use Rattle.picture.proofs.begin_in.Tie as tie
 
-is-size-requires : tie.Need-is-size-requires
-is-size-requires c κs = search needs
-
 returns : tie.Need-returns
 returns c = rw (sym (c .before .is-size .ensures) ∙ not-true _ (c .if1 .taken))
-
-is-size-requires-2 : tie.Need-is-size-requires-2
-is-size-requires-2 c κs = search needs
 
 returns-2 : tie.Need-returns-2
 returns-2 c =
@@ -22,12 +16,12 @@ returns-2 c =
 cast-samples : tie.Need-cast-samples
 cast-samples c =
     let width = c .before .before in
-    let w = in-range (width .before .before .args .width) 1 7680 (sym (width .before .is-size .ensures) ∙ not-false _ (width .if1 .left)) in
+    let w = in-range (record { low = 1; high = 7680 }) (width .before .before .args .width) (sym (width .before .is-size .ensures) ∙ not-false _ (width .if1 .left)) in
     search needs
 
 cast-most : tie.Need-cast-most
 cast-most c =
-    let h = in-range (c .before .before .before .before .args .height) 1 4320 (sym (c .before .is-size2 .ensures) ∙ not-false _ (c .if2 .left)) in
+    let h = in-range (record { low = 1; high = 4320 }) (c .before .before .before .before .args .height) (sym (c .before .is-size2 .ensures) ∙ not-false _ (c .if2 .left)) in
     search needs
 
 returns-3 : tie.Need-returns-3
@@ -36,6 +30,4 @@ returns-3 c =
     rw (sym (width .before .is-size .ensures) ∙ not-false _ (width .if1 .left), sym (c .before .is-size2 .ensures) ∙ not-false _ (c .if2 .left))
 
 pub begin-in-spec : {M : Type 1} → statement M
-begin-in-spec =
-    tie.close
-    (tie.spec is-size-requires returns is-size-requires-2 returns-2 cast-samples cast-most returns-3)
+begin-in-spec = tie.close (tie.spec (λ c κs. search needs) returns (λ c κs. search needs) returns-2 cast-samples cast-most returns-3)

@@ -1,20 +1,11 @@
 use borrow.Author.Needs.{needs}
+use borrow.Author.Tests.{lt-ltb, le-ltb, le-leb, lt-leb, eq-eqb, ne-eqb}
 use Rattle.picture.specs.Picture.{rowOpen}
-use Rattle.picture.proofs.Ranges.{tests}
 use Rattle.picture.proofs.next_row.Statement.{statement}
 use Rattle.picture.proofs.next_row.Tie as tie
 
-cast-needed : tie.Need-cast-needed
-cast-needed c = search needs
-
-mul-needed : tie.Need-mul-needed
-mul-needed c = search needs
-
-cast-size : tie.Need-cast-size
-cast-size c = search needs
-
-size-requires : tie.Need-size-requires
-size-requires c κs = search needs
+-- a test's value, where a branch has told it
+ruleset tests = (lt-ltb, le-ltb, le-leb, lt-leb, eq-eqb, ne-eqb)
 
 returns : tie.Need-returns
 unfolding rowOpen
@@ -35,15 +26,6 @@ returns-3 c =
     let third = rw (c .before .before .before .size .ensures) at (c .if3 .taken) in
     (simp tests, simp tests)
 
-write-row-requires : tie.Need-write-row-requires
-write-row-requires c κs = search needs
-
-add-accepted : tie.Need-add-accepted
-add-accepted c = search needs
-
-same-length : tie.Need-same-length
-same-length c = search needs
-
 returns-4 : tie.Need-returns-4
 unfolding rowOpen
 returns-4 c =
@@ -57,15 +39,5 @@ returns-4 c =
 pub next-row-spec : {M : Type 1} → statement M
 next-row-spec =
     tie.close
-    (tie.spec
-    cast-needed
-    mul-needed
-    cast-size
-    size-requires
-    returns
-    returns-2
-    returns-3
-    write-row-requires
-    add-accepted
-    same-length
-    returns-4)
+    (tie.spec (λ c. search needs) (λ c. search needs) (λ c. search needs) (λ c κs. search needs) returns returns-2 returns-3
+    (λ c κs. search needs) (λ c. search needs) (λ c. search needs) returns-4)

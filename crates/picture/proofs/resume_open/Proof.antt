@@ -5,12 +5,6 @@ use borrow.Author.Needs.{needs}
 use Rattle.picture.proofs.resume_open.Statement.{statement}
 use Rattle.picture.proofs.resume_open.Tie as tie
 
-is-proper-requires : tie.Need-is-proper-requires
-is-proper-requires c κs = search needs
-
-new-requires : tie.Need-new-requires
-new-requires c κs = search needs
-
 returns : tie.Need-returns
 returns c = ap (λ (b : Bool). resumedIf b (c .before .before .args .o)) (sym (c .if1 .taken) ∙ c .before .is-proper .ensures)
 
@@ -18,4 +12,4 @@ returns-2 : tie.Need-returns-2
 returns-2 c = c .new .ensures ∙ ap (λ (b : Bool). resumedIf b (c .before .before .before .args .o)) (sym (c .before .if1 .left) ∙ c .before .before .is-proper .ensures)
 
 pub resume-open-spec : {M : Type 1} → statement M
-resume-open-spec = tie.close (tie.spec is-proper-requires new-requires returns returns-2)
+resume-open-spec = tie.close (tie.spec (λ c κs. search needs) (λ c κs. search needs) returns returns-2)

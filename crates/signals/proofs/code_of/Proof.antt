@@ -20,9 +20,6 @@ use Rattle.signals.proofs.code_of.Lts as lts
 use Rattle.signals.proofs.code_of.Statement.{statement}
 use Rattle.signals.proofs.code_of.Tie as tie
 
-nominal-requires : tie.Need-nominal-requires
-nominal-requires c κs = search needs
-
 float-to-float-wide : tie.Need-float-to-float-wide
 float-to-float-wide c =
     let e = c .before .before .args .e in
@@ -33,9 +30,6 @@ sub-scaled c = rw (c .before .before .nominal .ensures) (omega arith)
 
 mul-scaled : tie.Need-mul-scaled
 mul-scaled c = rw (c .before .before .nominal .ensures) (omega (arith, scale-range (c .before .before .before .args .y)))
-
-int-to-float-scaled : tie.Need-int-to-float-scaled
-int-to-float-scaled c = search needs
 
 -- the product, as it is handed to the truncation
 module _ (c : lts.After-row-known2 (nominal-reads.Asked, nominal-reads.Learnt, truncating-f64-to-u64-reads.Asked, truncating-f64-to-u64-reads.Learnt) reads.Pre reads.Post) where
@@ -83,14 +77,5 @@ returns c =
 pub code-of-spec : {M : Type 1} → statement M
 code-of-spec =
     tie.close
-    (tie.spec
-    nominal-requires
-    float-to-float-wide
-    sub-scaled
-    mul-scaled
-    int-to-float-scaled
-    truncating-f64-to-u64-requires
-    add-steps
-    cast-result
-    add-result
-    returns)
+    (tie.spec (λ c κs. search needs) float-to-float-wide sub-scaled mul-scaled (λ c. search needs) truncating-f64-to-u64-requires add-steps
+    cast-result add-result returns)

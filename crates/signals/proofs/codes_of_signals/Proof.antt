@@ -1,26 +1,14 @@
 use mathlib.Core.Path.{_∙_, sym}
 use borrow.Author.Needs.{needs}
-use Rattle.signals.proofs.Triple.{each-in-unit}
+use Rattle.signals.proofs.Unit.{each-in-unit}
 use Rattle.signals.proofs.codes_of_signals.Statement.{statement}
 use Rattle.signals.proofs.codes_of_signals.Tie as tie
-
-from-number-requires : tie.Need-from-number-requires
-from-number-requires c κs = search needs
-
-enum-known-y : tie.Need-enum-known-y
-enum-known-y c = search needs
-
-all-in-unit-requires : tie.Need-all-in-unit-requires
-all-in-unit-requires c κs = search needs
 
 codes-at-requires : tie.Need-codes-at-requires
 codes-at-requires c κs =
     let tested = c .before in
     let named = tested .before .before in
     each-in-unit (named .before .before .before .args .signals) (sym (tested .all-in-unit .ensures) ∙ c .if1 .taken)
-
-enum-told : tie.Need-enum-told
-enum-told c = search needs
 
 returns : tie.Need-returns
 returns c =
@@ -39,12 +27,5 @@ returns-3 c = rw (sym (c .before .before .from-number .ensures), c .enum-told .g
 pub codes-of-signals-spec : {M : Type 1} → statement M
 codes-of-signals-spec =
     tie.close
-    (tie.spec
-    from-number-requires
-    enum-known-y
-    all-in-unit-requires
-    codes-at-requires
-    enum-told
-    returns
-    returns-2
+    (tie.spec (λ c κs. search needs) (λ c. search needs) (λ c κs. search needs) codes-at-requires (λ c. search needs) returns returns-2
     returns-3)

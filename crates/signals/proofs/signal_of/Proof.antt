@@ -8,20 +8,11 @@ use Rattle.signals.proofs.Quotient.{quotient-rounds-once}
 use Rattle.signals.proofs.signal_of.Statement.{statement}
 use Rattle.signals.proofs.signal_of.Tie as tie
 
-nominal-requires : tie.Need-nominal-requires
-nominal-requires c κs = search needs
-
 sub-above-black : tie.Need-sub-above-black
 sub-above-black c = rw (c .before .nominal .ensures) (c .before .before .pre)
 
-int-to-float-above-black : tie.Need-int-to-float-above-black
-int-to-float-above-black c = search needs
-
 sub-steps : tie.Need-sub-steps
 sub-steps c = rw (c .before .before .before .nominal .ensures) (omega arith)
-
-int-to-float-steps : tie.Need-int-to-float-steps
-int-to-float-steps c = search needs
 
 returns : tie.Need-returns
 returns c =
@@ -32,12 +23,4 @@ returns c =
     rw (c .before .before .before .before .nominal .ensures, steps) (quotient-rounds-once (st .args .code - 16 * s) (219 * s) (omega arith) (omega (arith, S)) (omega (arith, S)))
 
 pub signal-of-spec : {M : Type 1} → statement M
-signal-of-spec =
-    tie.close
-    (tie.spec
-    nominal-requires
-    sub-above-black
-    int-to-float-above-black
-    sub-steps
-    int-to-float-steps
-    returns)
+signal-of-spec = tie.close (tie.spec (λ c κs. search needs) sub-above-black (λ c. search needs) sub-steps (λ c. search needs) returns)

@@ -4,27 +4,12 @@ use Rattle.systems.proofs.Ranges.{all-nominal}
 use Rattle.signals.proofs.signals_of_codes.Statement.{statement}
 use Rattle.signals.proofs.signals_of_codes.Tie as tie
 
-from-number-requires : tie.Need-from-number-requires
-from-number-requires c κs = search needs
-
-enum-known-y : tie.Need-enum-known-y
-enum-known-y c = search needs
-
-nominal-requires : tie.Need-nominal-requires
-nominal-requires c κs = search needs
-
-all-in-requires : tie.Need-all-in-requires
-all-in-requires c κs = search needs
-
 signals-at-requires : tie.Need-signals-at-requires
 signals-at-requires c κs =
     let tested = c .before in
     let named = tested .before .before .before in
     let ranges = all-nominal (named .y .given .0 .0) (named .before .before .before .args .codes) (rw (tested .before .nominal .ensures) at (sym (tested .all-in .ensures) ∙ c .if1 .taken)) in
     (ranges .0 .0, ranges .1 .0, ranges .2 .0)
-
-enum-told : tie.Need-enum-told
-enum-told c = search needs
 
 returns : tie.Need-returns
 returns c =
@@ -43,13 +28,5 @@ returns-3 c = rw (sym (c .before .before .from-number .ensures), c .enum-told .g
 pub signals-of-codes-spec : {M : Type 1} → statement M
 signals-of-codes-spec =
     tie.close
-    (tie.spec
-    from-number-requires
-    enum-known-y
-    nominal-requires
-    all-in-requires
-    signals-at-requires
-    enum-told
-    returns
-    returns-2
-    returns-3)
+    (tie.spec (λ c κs. search needs) (λ c. search needs) (λ c κs. search needs) (λ c κs. search needs) signals-at-requires (λ c. search needs)
+    returns returns-2 returns-3)

@@ -3,15 +3,6 @@ use borrow.Author.Needs.{needs}
 use Rattle.picture.proofs.Picture.close.Statement.{statement}
 use Rattle.picture.proofs.Picture.close.Tie as tie
 
-enum-told : tie.Need-enum-told
-enum-told c = search needs
-
-enum-known-phase : tie.Need-enum-known-phase
-enum-known-phase c = search needs
-
-enum-told-2 : tie.Need-enum-told-2
-enum-told-2 c = search needs
-
 returns : tie.Need-returns
 returns c = simp (c .enum-told .given .1)
 
@@ -25,6 +16,4 @@ returns-4 : tie.Need-returns-4
 returns-4 c = simp (c .enum-told2 .given .1)
 
 pub close-spec : {M : Type 1} → statement M
-close-spec =
-    tie.close
-    (tie.spec enum-told enum-known-phase enum-told-2 returns returns-2 returns-3 returns-4)
+close-spec = tie.close (tie.spec (λ c. search needs) (λ c. search needs) (λ c. search needs) returns returns-2 returns-3 returns-4)

@@ -4,9 +4,6 @@ use Rattle.systems.proofs.Scales.{bits-range, scale-by-shift}
 use Rattle.systems.proofs.System.scale.Statement.{statement}
 use Rattle.systems.proofs.System.scale.Tie as tie
 
-bits-requires : tie.Need-bits-requires
-bits-requires c κs = search needs
-
 sub-result : tie.Need-sub-result
 sub-result c = omega (arith, c .bits .ensures, bits-range (c .before .args .self))
 
@@ -20,4 +17,4 @@ returns : tie.Need-returns
 returns c = rw (c .bits .ensures) (scale-by-shift (c .before .args .self))
 
 pub scale-spec : {M : Type 1} → statement M
-scale-spec = tie.close (tie.spec bits-requires sub-result cast-result shl-result returns)
+scale-spec = tie.close (tie.spec (λ c κs. search needs) sub-result cast-result shl-result returns)

@@ -1,7 +1,7 @@
 -- A test as a number, and a test that is made of others, taken apart.
 -- Assumes nothing.
 use mathlib.Core.Path.{_≡_, refl, sym, subst}
-use mathlib.Core.Bool.{Bool, true, false, _&&_, _||_, false≢true}
+use mathlib.Core.Bool.{Bool, true, false, _&&_, false≢true}
 use mathlib.Core.Logic.{_⊎_, inl, inr}
 use Prim.Native.Nat.{_≤_}
 use native.Mathlib.Omega.{arith}
@@ -23,10 +23,6 @@ pub all-three : (a b c : Bool) → T (a && (b && c)) → T a × T b × T c
 all-three true true c t = (tt, tt, t)
 all-three true false c t = absurd t
 all-three false b c t = absurd t
-
-pub one-of-two : (a b : Bool) → T (a || b) → T a ⊎ T b
-one-of-two true b t = inl tt
-one-of-two false b t = inr t
 
 pub each-of-three : (a b c : Bool) → (a && b && c) ≡ true → (a ≡ true) × (b ≡ true) × (c ≡ true)
 each-of-three true true true h = (refl, refl, refl)

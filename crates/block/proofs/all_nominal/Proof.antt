@@ -7,36 +7,6 @@ use borrow.Author.Needs.{needs}
 use Rattle.block.proofs.all_nominal.Statement.{statement}
 use Rattle.block.proofs.all_nominal.Tie as tie
 
-nominal-difference-requires : tie.Need-nominal-difference-requires
-nominal-difference-requires c κs = search needs
-
-luma-word-requires : tie.Need-luma-word-requires
-luma-word-requires c κs = search needs
-
-nominal-requires : tie.Need-nominal-requires
-nominal-requires c κs = search needs
-
-outside-requires : tie.Need-outside-requires
-outside-requires c κs = search needs
-
-cb-word-requires : tie.Need-cb-word-requires
-cb-word-requires c κs = search needs
-
-outside-requires-2 : tie.Need-outside-requires-2
-outside-requires-2 c κs = search needs
-
-cr-word-requires : tie.Need-cr-word-requires
-cr-word-requires c κs = search needs
-
-outside-requires-3 : tie.Need-outside-requires-3
-outside-requires-3 c κs = search needs
-
-add-result : tie.Need-add-result
-add-result c = search needs
-
-add-result-2 : tie.Need-add-result-2
-add-result-2 c = search needs
-
 returns : tie.Need-returns
 returns c =
     let cb = c .before .before in
@@ -52,15 +22,5 @@ returns c =
 pub all-nominal-spec : {M : Type 1} → statement M
 all-nominal-spec =
     tie.close
-    (tie.spec
-    nominal-difference-requires
-    luma-word-requires
-    nominal-requires
-    outside-requires
-    cb-word-requires
-    outside-requires-2
-    cr-word-requires
-    outside-requires-3
-    add-result
-    add-result-2
-    returns)
+    (tie.spec (λ c κs. search needs) (λ c κs. search needs) (λ c κs. search needs) (λ c κs. search needs) (λ c κs. search needs)
+    (λ c κs. search needs) (λ c κs. search needs) (λ c κs. search needs) (λ c. search needs) (λ c. search needs) returns)

@@ -4,18 +4,6 @@ use Rattle.block.proofs.Bias.{beyond-biased}
 use Rattle.block.proofs.beyond.Statement.{statement}
 use Rattle.block.proofs.beyond.Tie as tie
 
-add-result : tie.Need-add-result
-add-result c = search needs
-
-cast-result : tie.Need-cast-result
-cast-result c = search needs
-
-add-result-2 : tie.Need-add-result-2
-add-result-2 c = search needs
-
-cast-result-2 : tie.Need-cast-result-2
-cast-result-2 c = search needs
-
 add-result-3 : tie.Need-add-result-3
 add-result-3 c = omega (arith, beyond-biased (c .before .before .args .n) (c .before .before .args .v) (c .before .before .pre) .1)
 
@@ -23,5 +11,4 @@ returns : tie.Need-returns
 returns c = beyond-biased (c .before .before .args .n) (c .before .before .args .v) (c .before .before .pre)
 
 pub beyond-spec : {M : Type 1} → statement M
-beyond-spec =
-    tie.close (tie.spec add-result cast-result add-result-2 cast-result-2 add-result-3 returns)
+beyond-spec = tie.close (tie.spec (λ c. search needs) (λ c. search needs) (λ c. search needs) (λ c. search needs) add-result-3 returns)

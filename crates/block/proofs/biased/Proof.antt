@@ -11,9 +11,6 @@ use Rattle.block.proofs.Bias.{biased-is}
 use Rattle.block.proofs.biased.Statement.{statement}
 use Rattle.block.proofs.biased.Tie as tie
 
-cast-result : tie.Need-cast-result
-cast-result c = search needs
-
 add-result : tie.Need-add-result
 add-result c = let b = biased-is (c .args .v) (c .pre) in rw (toZ-ofZ w64 (c .args .v) (c .fits .v), b .0) (fits-i64 (pos (biased (c .args .v))) (omega (arith, b .1)))
 
@@ -24,4 +21,4 @@ returns : tie.Need-returns
 returns c = let b = biased-is (c .args .v) (c .pre) in rw (toZ-ofZ w64 (c .args .v) (c .fits .v), b .0, toZ-pos w64 (biased (c .args .v)) (omega (arith, b .1)))
 
 pub biased-spec : {M : Type 1} → statement M
-biased-spec = tie.close (tie.spec cast-result add-result cast-result-2 returns)
+biased-spec = tie.close (tie.spec (λ c. search needs) add-result cast-result-2 returns)

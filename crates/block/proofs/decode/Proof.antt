@@ -33,29 +33,14 @@ module _ (c : tie.After-put-unclipped) where
   unclipped-long : length unclipped ≡ length (now (start .args .codes))
   unclipped-long = ap length unclipped-is ∙ listed-kept _ (start .args .samples) (now (start .args .codes)) (start .pre .fits)
 
-matrix-requires : tie.Need-matrix-requires
-matrix-requires c κs = search needs
-
 put-unclipped-requires : tie.Need-put-unclipped-requires
 put-unclipped-requires c κs = c .before .before .before .before .pre
-
-nominal-requires : tie.Need-nominal-requires
-nominal-requires c κs = search needs
-
-mul-clip-all : tie.Need-mul-clip-all
-mul-clip-all c = search needs
 
 clip-all-requires : tie.Need-clip-all-requires
 clip-all-requires c κs =
     let r = c .before .before .before .before in
     let p = start r .pre in
     (rw (c .before .nominal .ensures) record { in-order = omega arith; small = omega (arith, scale-range (start r .args .system) .1) }, omega (arith, p .fits, unclipped-long r), omega (arith, p .narrow))
-
-cast-result : tie.Need-cast-result
-cast-result c = search needs
-
-same-length : tie.Need-same-length
-same-length c = search needs
 
 returns : tie.Need-returns
 returns c =
@@ -73,12 +58,5 @@ returns c =
 pub decode-spec : {M : Type 1} → statement M
 decode-spec =
     tie.close
-    (tie.spec
-    matrix-requires
-    put-unclipped-requires
-    nominal-requires
-    mul-clip-all
-    clip-all-requires
-    cast-result
-    same-length
-    returns)
+    (tie.spec (λ c κs. search needs) put-unclipped-requires (λ c κs. search needs) (λ c. search needs) clip-all-requires (λ c. search needs)
+    (λ c. search needs) returns)

@@ -18,26 +18,8 @@ read z h = reads-back z (omega arith)
 biased-requires : tie.Need-biased-requires
 biased-requires c κs = let s = c .before .before in rw (read (s .args .v .r) (s .pre .2 .r)) (s .pre .2 .r)
 
-mul-codes : tie.Need-mul-codes
-mul-codes c = search needs
-
-mul-codes-2 : tie.Need-mul-codes-2
-mul-codes-2 c = search needs
-
-slice-write-codes : tie.Need-slice-write-codes
-slice-write-codes c = search needs
-
 biased-requires-2 : tie.Need-biased-requires-2
 biased-requires-2 c κs = let s = c .before .before .before .before in rw (read (s .args .v .g) (s .pre .2 .g)) (s .pre .2 .g)
-
-mul-codes-3 : tie.Need-mul-codes-3
-mul-codes-3 c = search needs
-
-add-codes : tie.Need-add-codes
-add-codes c = search needs
-
-mul-codes-4 : tie.Need-mul-codes-4
-mul-codes-4 c = search needs
 
 slice-write-codes-2 : tie.Need-slice-write-codes-2
 slice-write-codes-2 c = simp length-set (search needs)
@@ -45,20 +27,8 @@ slice-write-codes-2 c = simp length-set (search needs)
 biased-requires-3 : tie.Need-biased-requires-3
 biased-requires-3 c κs = let s = c .before .before .before .before .before .before in rw (read (s .args .v .b) (s .pre .2 .b)) (s .pre .2 .b)
 
-mul-codes-5 : tie.Need-mul-codes-5
-mul-codes-5 c = search needs
-
-add-codes-2 : tie.Need-add-codes-2
-add-codes-2 c = search needs
-
-mul-codes-6 : tie.Need-mul-codes-6
-mul-codes-6 c = search needs
-
 slice-write-codes-3 : tie.Need-slice-write-codes-3
 slice-write-codes-3 c = simp length-set (search needs)
-
-same-length : tie.Need-same-length
-same-length c = search needs
 
 returns : tie.Need-returns
 returns c =
@@ -71,20 +41,6 @@ returns c =
 pub put-triple-spec : {M : Type 1} → statement M
 put-triple-spec =
     tie.close
-    (tie.spec
-    biased-requires
-    mul-codes
-    mul-codes-2
-    slice-write-codes
-    biased-requires-2
-    mul-codes-3
-    add-codes
-    mul-codes-4
-    slice-write-codes-2
-    biased-requires-3
-    mul-codes-5
-    add-codes-2
-    mul-codes-6
-    slice-write-codes-3
-    same-length
-    returns)
+    (tie.spec biased-requires (λ c. search needs) (λ c. search needs) (λ c. search needs) biased-requires-2 (λ c. search needs)
+    (λ c. search needs) (λ c. search needs) slice-write-codes-2 biased-requires-3 (λ c. search needs) (λ c. search needs) (λ c. search needs)
+    slice-write-codes-3 (λ c. search needs) returns)

@@ -15,20 +15,8 @@ use Rattle.block.proofs.read_block.Tie as tie
 walked : (c : tie.After-b) → walk (now (c .before .before .before .before .before .args .bytes)) ≡ accepted (c .b .given .0 .0)
 walked c = sym (c .before .before .walk .ensures) ∙ ap toldWalk (c .b .given .1)
 
-walk-requires : tie.Need-walk-requires
-walk-requires c κs = search needs
-
-enum-known-b : tie.Need-enum-known-b
-enum-known-b c = search needs
-
 all-nominal-requires : tie.Need-all-nominal-requires
 all-nominal-requires c κs = let shape = walk-accepted _ _ (walked (c .before)) .0 in (omega (arith, shape .size), shape .most)
-
-cast-room : tie.Need-cast-room
-cast-room c = search needs
-
-mul-room : tie.Need-mul-room
-mul-room c = search needs
 
 returns : tie.Need-returns
 returns c =
@@ -40,20 +28,11 @@ returns-2 c =
     let e = room-refused _ _ _ (walked (c .before .before .before .before)) (sym (c .before .before .all-nominal .ensures) ∙ not-false _ (c .before .if1 .left)) (leb-false _ _ (not-true _ (c .if2 .taken))) in
     (sym e, slice-stays _ _ 5 e)
 
-cast-decode : tie.Need-cast-decode
-cast-decode c = search needs
-
 decode-requires : tie.Need-decode-requires
 decode-requires c κs = decodable _ _ _ (walked (c .before .before .before .before .before)) (sym (c .before .before .before .all-nominal .ensures) ∙ not-false _ (c .before .before .if1 .left)) (leb-true _ _ (not-false _ (c .before .if2 .left)))
 
 field-at-requires : tie.Need-field-at-requires
 field-at-requires c κs = omega (arith, walk-accepted _ _ (walked (c .before .before .before .before .before .before .before .before)) .0 .size)
-
-enum-known-r : tie.Need-enum-known-r
-enum-known-r c = search needs
-
-same-length : tie.Need-same-length
-same-length c = search needs
 
 returns-3 : tie.Need-returns-3
 returns-3 c =
@@ -68,18 +47,5 @@ returns-4 c =
 pub read-block-spec : {M : Type 1} → statement M
 read-block-spec =
     tie.close
-    (tie.spec
-    walk-requires
-    enum-known-b
-    all-nominal-requires
-    cast-room
-    mul-room
-    returns
-    returns-2
-    cast-decode
-    decode-requires
-    field-at-requires
-    enum-known-r
-    same-length
-    returns-3
-    returns-4)
+    (tie.spec (λ c κs. search needs) (λ c. search needs) all-nominal-requires (λ c. search needs) (λ c. search needs) returns returns-2
+    (λ c. search needs) decode-requires field-at-requires (λ c. search needs) (λ c. search needs) returns-3 returns-4)

@@ -13,29 +13,8 @@ use Rattle.block.proofs.section_at.Tie as tie
 abbrev fits : tie.After-holds → Bool
 fits c = let a = c .before .before .before .before .args in leb (a .at + 2 + 2 * c .before .field-at .result) (length (now (a .bytes)))
 
-add-if1 : tie.Need-add-if1
-add-if1 c = search needs
-
 returns : tie.Need-returns
 returns c = rw (lt-leb _ _ (c .if1 .taken))
-
-field-at-requires : tie.Need-field-at-requires
-field-at-requires c κs = search needs
-
-holds-requires : tie.Need-holds-requires
-holds-requires c κs = search needs
-
-add-complete : tie.Need-add-complete
-add-complete c = search needs
-
-cast-complete : tie.Need-cast-complete
-cast-complete c = search needs
-
-mul-complete : tie.Need-mul-complete
-mul-complete c = search needs
-
-add-complete-2 : tie.Need-add-complete-2
-add-complete-2 c = search needs
 
 returns-2 : tie.Need-returns-2
 returns-2 c = rw (le-leb _ _ (c .before .before .before .if1 .left), sym (c .before .before .field-at .ensures), sym (c .before .holds .ensures) ∙ not-true _ (c .if2 .taken))
@@ -49,15 +28,5 @@ returns-4 c = rw (le-leb _ _ (c .before .before .before .before .if1 .left), sym
 pub section-at-spec : {M : Type 1} → statement M
 section-at-spec =
     tie.close
-    (tie.spec
-    add-if1
-    returns
-    field-at-requires
-    holds-requires
-    add-complete
-    cast-complete
-    mul-complete
-    add-complete-2
-    returns-2
-    returns-3
-    returns-4)
+    (tie.spec (λ c. search needs) returns (λ c κs. search needs) (λ c κs. search needs) (λ c. search needs) (λ c. search needs)
+    (λ c. search needs) (λ c. search needs) returns-2 returns-3 returns-4)

@@ -29,51 +29,12 @@ cb c = let w = c .before .before .before in section-said (bytes w) (5 + 2 * coun
 cr : (c : tie.After-section-at3) → let w = c .before .before .before .before .before .before .before in sectionAt (bytes w) (7 + 4 * count w) (eqb (count w)) ≡ toldCount (c .section-at3 .result)
 cr c = let w = c .before .before .before .before .before .before .before in section-said (bytes w) (7 + 4 * count w) (count w) (c .section-at3 .result) (rw (c .before .cr-count .ensures) at (c .section-at3 .ensures))
 
-section-at-requires : tie.Need-section-at-requires
-section-at-requires c κs = search needs
-
-enum-known-w : tie.Need-enum-known-w
-enum-known-w c = search needs
-
-cast-n : tie.Need-cast-n
-cast-n c = search needs
-
-cb-count-requires : tie.Need-cb-count-requires
-cb-count-requires c κs = search needs
-
-section-at-requires-2 : tie.Need-section-at-requires-2
-section-at-requires-2 c κs = search needs
-
-enum-told : tie.Need-enum-told
-enum-told c = search needs
-
-cr-count-requires : tie.Need-cr-count-requires
-cr-count-requires c κs = search needs
-
-section-at-requires-3 : tie.Need-section-at-requires-3
-section-at-requires-3 c κs = search needs
-
-enum-told-2 : tie.Need-enum-told-2
-enum-told-2 c = search needs
-
-size-requires : tie.Need-size-requires
-size-requires c κs = search needs
-
 returns : tie.Need-returns
 unfolding sections
 returns c =
     let third = c .before .before .before .before in
     let second = third .before .before .before .before in
     rw (luma (second .before .before .before), cb second ∙ ap toldCount (third .before .before .enum-told .given .1), cr third ∙ ap toldCount (c .before .before .enum-told2 .given .1), ne-eqb _ _ (rw (c .before .size .ensures) at (c .if1 .taken)))
-
-enum-known-r : tie.Need-enum-known-r
-enum-known-r c = search needs
-
-enum-known-r-2 : tie.Need-enum-known-r-2
-enum-known-r-2 c = search needs
-
-enum-known-r-3 : tie.Need-enum-known-r-3
-enum-known-r-3 c = search needs
 
 returns-2 : tie.Need-returns-2
 unfolding sections
@@ -102,22 +63,6 @@ returns-5 c = rw (sym (c .before .before .before .section-at .ensures) ∙ ap to
 pub sections-spec : {M : Type 1} → statement M
 sections-spec =
     tie.close
-    (tie.spec
-    section-at-requires
-    enum-known-w
-    cast-n
-    cb-count-requires
-    section-at-requires-2
-    enum-told
-    cr-count-requires
-    section-at-requires-3
-    enum-told-2
-    size-requires
-    returns
-    enum-known-r
-    enum-known-r-2
-    enum-known-r-3
-    returns-2
-    returns-3
-    returns-4
-    returns-5)
+    (tie.spec (λ c κs. search needs) (λ c. search needs) (λ c. search needs) (λ c κs. search needs) (λ c κs. search needs) (λ c. search needs)
+    (λ c κs. search needs) (λ c κs. search needs) (λ c. search needs) (λ c κs. search needs) returns (λ c. search needs) (λ c. search needs)
+    (λ c. search needs) returns-2 returns-3 returns-4 returns-5)

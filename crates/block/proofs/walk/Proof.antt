@@ -12,36 +12,12 @@ returns : tie.Need-returns
 unfolding walk
 returns c = rw (lt-leb _ _ (c .if1 .taken))
 
-shared-slice-read-from-number : tie.Need-shared-slice-read-from-number
-shared-slice-read-from-number c = search needs
-
 cast-from-number : tie.Need-cast-from-number
 cast-from-number c = omega (arith, c .shared-slice-known2 .given 0)
-
-from-number-requires : tie.Need-from-number-requires
-from-number-requires c κs = search needs
-
-enum-known-system : tie.Need-enum-known-system
-enum-known-system c = search needs
-
-field-at-requires : tie.Need-field-at-requires
-field-at-requires c κs = search needs
 
 returns-2 : tie.Need-returns-2
 unfolding walk
 returns-2 c = rw (le-leb _ _ (c .before .before .before .before .before .before .before .if1 .left), sym (c .before .before .before .before .before .from-number .ensures) ∙ ap found (c .before .before .before .system .given .1), sym (c .before .field-at .ensures), lt-leb _ _ (c .if2 .taken))
-
-sections-requires : tie.Need-sections-requires
-sections-requires c κs = search needs
-
-enum-known-samples : tie.Need-enum-known-samples
-enum-known-samples c = search needs
-
-enum-known-r : tie.Need-enum-known-r
-enum-known-r c = search needs
-
-enum-told : tie.Need-enum-told
-enum-told c = search needs
 
 returns-3 : tie.Need-returns-3
 unfolding walk
@@ -58,18 +34,5 @@ returns-5 c = rw (le-leb _ _ (c .before .before .before .before .if1 .left), sym
 pub walk-spec : {M : Type 1} → statement M
 walk-spec =
     tie.close
-    (tie.spec
-    returns
-    shared-slice-read-from-number
-    cast-from-number
-    from-number-requires
-    enum-known-system
-    field-at-requires
-    returns-2
-    sections-requires
-    enum-known-samples
-    enum-known-r
-    enum-told
-    returns-3
-    returns-4
-    returns-5)
+    (tie.spec returns (λ c. search needs) cast-from-number (λ c κs. search needs) (λ c. search needs) (λ c κs. search needs) returns-2
+    (λ c κs. search needs) (λ c. search needs) (λ c. search needs) (λ c. search needs) returns-3 returns-4 returns-5)

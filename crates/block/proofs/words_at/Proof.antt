@@ -2,24 +2,6 @@ use borrow.Author.Needs.{needs}
 use Rattle.block.proofs.words_at.Statement.{statement}
 use Rattle.block.proofs.words_at.Tie as tie
 
-luma-word-requires : tie.Need-luma-word-requires
-luma-word-requires c κs = search needs
-
-field-at-requires : tie.Need-field-at-requires
-field-at-requires c κs = search needs
-
-cb-word-requires : tie.Need-cb-word-requires
-cb-word-requires c κs = search needs
-
-field-at-requires-2 : tie.Need-field-at-requires-2
-field-at-requires-2 c κs = search needs
-
-cr-word-requires : tie.Need-cr-word-requires
-cr-word-requires c κs = search needs
-
-field-at-requires-3 : tie.Need-field-at-requires-3
-field-at-requires-3 c κs = search needs
-
 returns : tie.Need-returns
 returns c =
     let cb = c .before .before in
@@ -29,11 +11,5 @@ returns c =
 pub words-at-spec : {M : Type 1} → statement M
 words-at-spec =
     tie.close
-    (tie.spec
-    luma-word-requires
-    field-at-requires
-    cb-word-requires
-    field-at-requires-2
-    cr-word-requires
-    field-at-requires-3
-    returns)
+    (tie.spec (λ c κs. search needs) (λ c κs. search needs) (λ c κs. search needs) (λ c κs. search needs) (λ c κs. search needs)
+    (λ c κs. search needs) returns)

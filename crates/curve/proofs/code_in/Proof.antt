@@ -69,12 +69,6 @@ shared-slice-read-n c = index-read (c .before .before .before)
 cast-n-3 : tie.Need-cast-n-3
 cast-n-3 c = omega (arith, table-read (c .before .before .before))
 
-nominal-requires : tie.Need-nominal-requires
-nominal-requires c κs = search needs
-
-cast-result : tie.Need-cast-result
-cast-result c = search needs
-
 add-result : tie.Need-add-result
 add-result c = omega (arith, table-read (c .before .before .before .before .before))
 
@@ -83,9 +77,6 @@ mul-passed c = omega (arith, table-read (c .before .before .before .before .befo
 
 shared-slice-read-passed : tie.Need-shared-slice-read-passed
 shared-slice-read-passed c = omega (arith, table-read (c .before .before .before .before .before .before))
-
-passed-requires : tie.Need-passed-requires
-passed-requires c κs = search needs
 
 add-result-2 : tie.Need-add-result-2
 add-result-2 c = omega (arith, table-read (c .before .before .before .before .before .before .before))
@@ -99,9 +90,6 @@ mul-passed-2 c = omega (arith, table-read (c .before .before .before .before .be
 shared-slice-read-passed-2 : tie.Need-shared-slice-read-passed-2
 shared-slice-read-passed-2 c = omega (arith, table-read (c .before .before .before .before .before .before .before .before))
 
-passed-requires-2 : tie.Need-passed-requires-2
-passed-requires-2 c κs = search needs
-
 add-result-3 : tie.Need-add-result-3
 add-result-3 c = omega (arith, table-read (c .before .before .before .before .before .before .before .before .before))
 
@@ -114,23 +102,6 @@ returns c =
 pub code-in-spec : {M : Type 1} → statement M
 code-in-spec =
     tie.close
-    (tie.spec
-    cast-n
-    shr-n
-    cast-n-2
-    mul-n
-    shared-slice-read-n
-    cast-n-3
-    nominal-requires
-    cast-result
-    add-result
-    mul-passed
-    shared-slice-read-passed
-    passed-requires
-    add-result-2
-    add-passed
-    mul-passed-2
-    shared-slice-read-passed-2
-    passed-requires-2
-    add-result-3
-    returns)
+    (tie.spec cast-n shr-n cast-n-2 mul-n shared-slice-read-n cast-n-3 (λ c κs. search needs) (λ c. search needs) add-result mul-passed
+    shared-slice-read-passed (λ c κs. search needs) add-result-2 add-passed mul-passed-2 shared-slice-read-passed-2 (λ c κs. search needs)
+    add-result-3 returns)

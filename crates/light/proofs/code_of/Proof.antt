@@ -6,19 +6,10 @@ use borrow.Author.Needs.{needs}
 use Rattle.light.proofs.code_of.Statement.{statement}
 use Rattle.light.proofs.code_of.Tie as tie
 
-enum-told : tie.Need-enum-told
-enum-told c = search needs
-
-new-requires : tie.Need-new-requires
-new-requires c κs = search needs
-
 code-in-requires : tie.Need-code-in-requires
 code-in-requires c κs =
     let made = c .before .before .before .before .before .new in
     subst⁻¹ (λ (z : System). ReadyFor z 7 (made .result .boundaries) (made .result .index)) (c .before .before .before .before .before .before .enum-told .given .1) (made .ensures)
-
-new-requires-2 : tie.Need-new-requires-2
-new-requires-2 c κs = search needs
 
 code-in-requires-2 : tie.Need-code-in-requires-2
 code-in-requires-2 c κs =
@@ -26,38 +17,13 @@ code-in-requires-2 c κs =
     let made = c .before .before .before .before .before .new2 in
     of-either (arm .before .args .y) (arm .match .keys2) (λ (z : System). ReadyFor z 5 (made .result .boundaries) (made .result .index)) (made .ensures .0) (made .ensures .1)
 
-enum-told-2 : tie.Need-enum-told-2
-enum-told-2 c = search needs
-
-new-requires-3 : tie.Need-new-requires-3
-new-requires-3 c κs = search needs
-
 code-in-requires-3 : tie.Need-code-in-requires-3
 code-in-requires-3 c κs =
     let made = c .before .before .before .before .before .new3 in
     subst⁻¹ (λ (z : System). ReadyFor z 3 (made .result .boundaries) (made .result .index)) (c .before .before .before .before .before .before .enum-told2 .given .1) (made .ensures)
 
-returns : tie.Need-returns
-returns c = search needs
-
-returns-2 : tie.Need-returns-2
-returns-2 c = search needs
-
-returns-3 : tie.Need-returns-3
-returns-3 c = search needs
-
 pub code-of-spec : {M : Type 1} → statement M
 code-of-spec =
     tie.close
-    (tie.spec
-    enum-told
-    new-requires
-    code-in-requires
-    new-requires-2
-    code-in-requires-2
-    enum-told-2
-    new-requires-3
-    code-in-requires-3
-    returns
-    returns-2
-    returns-3)
+    (tie.spec (λ c. search needs) (λ c κs. search needs) code-in-requires (λ c κs. search needs) code-in-requires-2 (λ c. search needs)
+    (λ c κs. search needs) code-in-requires-3 (λ c. search needs) (λ c. search needs) (λ c. search needs))

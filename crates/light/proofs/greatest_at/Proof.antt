@@ -7,12 +7,6 @@ use borrow.Author.Needs.{needs}
 use Rattle.light.proofs.greatest_at.Statement.{statement}
 use Rattle.light.proofs.greatest_at.Tie as tie
 
-mul-result : tie.Need-mul-result
-mul-result c = search needs
-
-shared-slice-read-result : tie.Need-shared-slice-read-result
-shared-slice-read-result c = search needs
-
 sub-result : tie.Need-sub-result
 sub-result c = let a = c .before .before .args in omega (arith, c .before .before .pre, inside (now (a .boundaries)) (a .n) 65536 0 (search needs))
 
@@ -23,5 +17,4 @@ returns-2 : tie.Need-returns-2
 returns-2 c = sym (List·getD-eq-default (now (c .before .args .boundaries)) 65536 (search needs))
 
 pub greatest-at-spec : {M : Type 1} → statement M
-greatest-at-spec =
-    tie.close (tie.spec mul-result shared-slice-read-result sub-result returns returns-2)
+greatest-at-spec = tie.close (tie.spec (λ c. search needs) (λ c. search needs) sub-result returns returns-2)

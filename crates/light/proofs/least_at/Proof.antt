@@ -5,21 +5,8 @@ use borrow.Author.Needs.{needs}
 use Rattle.light.proofs.least_at.Statement.{statement}
 use Rattle.light.proofs.least_at.Tie as tie
 
-returns : tie.Need-returns
-returns c = search needs
-
-sub-result : tie.Need-sub-result
-sub-result c = search needs
-
-mul-result : tie.Need-mul-result
-mul-result c = search needs
-
-shared-slice-read-result : tie.Need-shared-slice-read-result
-shared-slice-read-result c = search needs
-
 returns-2 : tie.Need-returns-2
 returns-2 c = let a = c .before .before .args in entry-before (now (a .boundaries)) (a .n) (omega arith)
 
 pub least-at-spec : {M : Type 1} → statement M
-least-at-spec =
-    tie.close (tie.spec returns sub-result mul-result shared-slice-read-result returns-2)
+least-at-spec = tie.close (tie.spec (λ c. search needs) (λ c. search needs) (λ c. search needs) (λ c. search needs) returns-2)

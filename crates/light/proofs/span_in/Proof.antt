@@ -11,14 +11,8 @@ use borrow.Author.Needs.{needs}
 use Rattle.light.proofs.span_in.Statement.{statement}
 use Rattle.light.proofs.span_in.Tie as tie
 
-nominal-requires : tie.Need-nominal-requires
-nominal-requires c κs = search needs
-
 sub-n : tie.Need-sub-n
 sub-n c = rw (c .before .nominal .ensures) (c .before .before .before .pre .1)
-
-cast-n : tie.Need-cast-n
-cast-n c = search needs
 
 least-at-requires : tie.Need-least-at-requires
 least-at-requires c κs =
@@ -45,6 +39,4 @@ returns c =
     rw (lo, hi)
 
 pub span-in-spec : {M : Type 1} → statement M
-span-in-spec =
-    tie.close
-    (tie.spec nominal-requires sub-n cast-n least-at-requires greatest-at-requires returns)
+span-in-spec = tie.close (tie.spec (λ c κs. search needs) sub-n (λ c. search needs) least-at-requires greatest-at-requires returns)

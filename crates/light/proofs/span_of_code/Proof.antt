@@ -4,26 +4,11 @@ use Rattle.systems.proofs.Ranges.{is-nominal}
 use Rattle.light.proofs.span_of_code.Statement.{statement}
 use Rattle.light.proofs.span_of_code.Tie as tie
 
-from-number-requires : tie.Need-from-number-requires
-from-number-requires c κs = search needs
-
-enum-known-y : tie.Need-enum-known-y
-enum-known-y c = search needs
-
-nominal-requires : tie.Need-nominal-requires
-nominal-requires c κs = search needs
-
-holds-requires : tie.Need-holds-requires
-holds-requires c κs = search needs
-
 span-of-requires : tie.Need-span-of-requires
 span-of-requires c κs =
     let tested = c .before in
     let named = tested .before .before .before in
     is-nominal (named .y .given .0 .0) (named .before .before .before .args .code) (rw (tested .before .nominal .ensures) at (sym (tested .holds .ensures) ∙ c .if1 .taken))
-
-enum-told : tie.Need-enum-told
-enum-told c = search needs
 
 returns : tie.Need-returns
 returns c =
@@ -42,13 +27,5 @@ returns-3 c = rw (sym (c .before .before .from-number .ensures), c .enum-told .g
 pub span-of-code-spec : {M : Type 1} → statement M
 span-of-code-spec =
     tie.close
-    (tie.spec
-    from-number-requires
-    enum-known-y
-    nominal-requires
-    holds-requires
-    span-of-requires
-    enum-told
-    returns
-    returns-2
-    returns-3)
+    (tie.spec (λ c κs. search needs) (λ c. search needs) (λ c κs. search needs) (λ c κs. search needs) span-of-requires (λ c. search needs)
+    returns returns-2 returns-3)

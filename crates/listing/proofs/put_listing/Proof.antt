@@ -18,18 +18,6 @@ zeros = replicate 23040 0
 all-zeros : length zeros ≡ 23040
 all-zeros = length-replicate {A = ℕ} 23040 0
 
-slice-aggregate-read-block : tie.Need-slice-aggregate-read-block
-slice-aggregate-read-block c = search needs
-
-read-block-requires : tie.Need-read-block-requires
-read-block-requires c κs = search needs
-
-enum-known-header : tie.Need-enum-known-header
-enum-known-header c = search needs
-
-slice-aggregate-put-row : tie.Need-slice-aggregate-put-row
-slice-aggregate-put-row c = search needs
-
 put-row-requires : tie.Need-put-row-requires
 put-row-requires c κs =
     let read = c .before .before .before .before .before .before .read-block .ensures in
@@ -37,22 +25,10 @@ put-row-requires c κs =
     let long = ap length (read .1) ∙ slice-keeps-its-length _ zeros in
     (omega (arith, bounds .most, c .before .before .before .before .before .before .before .before .before .before .pre), omega (arith, bounds .fits, long))
 
-enum-known-refusal : tie.Need-enum-known-refusal
-enum-known-refusal c = search needs
-
-put-refusal-requires : tie.Need-put-refusal-requires
-put-refusal-requires c κs = search needs
-
-same-length : tie.Need-same-length
-same-length c = search needs
-
 returns : tie.Need-returns
 returns c =
     let read = c .before .before .before .before .before .before .before .before .before .read-block .ensures in
     at-front (put-as (c .before .before .put-row .ensures) (row-listed _ zeros all-zeros (ap toldHeader (sym (c .before .before .before .before .before .before .header .given .1)) ∙ read .0) (read .1)))
-
-same-length-2 : tie.Need-same-length-2
-same-length-2 c = search needs
 
 returns-2 : tie.Need-returns-2
 returns-2 c =
@@ -62,15 +38,5 @@ returns-2 c =
 pub put-listing-spec : {M : Type 1} → statement M
 put-listing-spec =
     tie.close
-    (tie.spec
-    slice-aggregate-read-block
-    read-block-requires
-    enum-known-header
-    slice-aggregate-put-row
-    put-row-requires
-    enum-known-refusal
-    put-refusal-requires
-    same-length
-    returns
-    same-length-2
-    returns-2)
+    (tie.spec (λ c. search needs) (λ c κs. search needs) (λ c. search needs) (λ c. search needs) put-row-requires (λ c. search needs)
+    (λ c κs. search needs) (λ c. search needs) returns (λ c. search needs) returns-2)

@@ -22,18 +22,6 @@ module _ (c : tie.After-struct-known2) where
   high-read : toZ w64 (s .args .n .high) ≡ pos (s .args .n .high)
   high-read = toZ-pos w64 (s .args .n .high) (omega (arith, c .struct-known2 .given))
 
-cast-result : tie.Need-cast-result
-cast-result c = search needs
-
-cast-result-2 : tie.Need-cast-result-2
-cast-result-2 c = search needs
-
-cast-result-3 : tie.Need-cast-result-3
-cast-result-3 c = search needs
-
-cast-result-4 : tie.Need-cast-result-4
-cast-result-4 c = search needs
-
 add-result : tie.Need-add-result
 add-result c = rw (read c, low-read c, high-read c) record { fits = omega (arith, counted (s c .args .n) (s c .args .v) (s c .pre) .1) }
 
@@ -41,5 +29,4 @@ returns : tie.Need-returns
 returns c = rw (read c, low-read c, high-read c) (counted (s c .args .n) (s c .args .v) (s c .pre))
 
 pub beyond-spec : {M : Type 1} → statement M
-beyond-spec =
-    tie.close (tie.spec cast-result cast-result-2 cast-result-3 cast-result-4 add-result returns)
+beyond-spec = tie.close (tie.spec (λ c. search needs) (λ c. search needs) (λ c. search needs) (λ c. search needs) add-result returns)

@@ -21,14 +21,8 @@ above c b h =
     let s = c .before .before .before in
     rw (toZ-ofZ w64 (s .args .v) (s .fits .v), toZ-pos w64 (s .args .n .high) (omega (arith, c .struct-known2 .given))) at h
 
-cast-if1 : tie.Need-cast-if1
-cast-if1 c = search needs
-
 returns : tie.Need-returns
 returns c = let s = c .before .before in clipped-by (s .args .n) (s .args .v) true (ltZ (pos (s .args .n .high)) (s .args .v)) (below (c .before) true (c .if1 .taken)) refl
-
-cast-if2 : tie.Need-cast-if2
-cast-if2 c = search needs
 
 returns-2 : tie.Need-returns-2
 returns-2 c =
@@ -47,4 +41,4 @@ returns-3 c =
     rw (toZ-ofZ w64 (s .args .v) (s .fits .v)) (natural-inside (s .args .n) (s .args .v) (below (c .before .before .before) false (c .before .before .if1 .left)) (above (c .before) false (c .if2 .left)) .2)
 
 pub clip-spec : {M : Type 1} → statement M
-clip-spec = tie.close (tie.spec cast-if1 returns cast-if2 returns-2 cast-result returns-3)
+clip-spec = tie.close (tie.spec (λ c. search needs) returns (λ c. search needs) returns-2 cast-result returns-3)

@@ -18,35 +18,14 @@ components-read c =
     let small = unclipped-small (scale (s .args .y)) (s .args .w) (scale-range (s .args .y) .1) (s .pre) (matrix (s .args .y)) in
     rw (c .unclipped-in .ensures) (reads-back _ (omega (arith, small .0)), reads-back _ (omega (arith, small .1)), reads-back _ (omega (arith, small .2)))
 
-unclipped-in-requires : tie.Need-unclipped-in-requires
-unclipped-in-requires c κs = search needs
-
-nominal-requires : tie.Need-nominal-requires
-nominal-requires c κs = search needs
-
-clip-requires : tie.Need-clip-requires
-clip-requires c κs = search needs
-
-clip-requires-2 : tie.Need-clip-requires-2
-clip-requires-2 c κs = search needs
-
-clip-requires-3 : tie.Need-clip-requires-3
-clip-requires-3 c κs = search needs
-
 beyond-requires : tie.Need-beyond-requires
 beyond-requires c κs = rw (c .before .before .before .before .before .before .before .nominal .ensures) (omega arith)
 
 beyond-requires-2 : tie.Need-beyond-requires-2
 beyond-requires-2 c κs = rw (c .before .before .before .before .before .before .before .before .before .nominal .ensures) (omega arith)
 
-add-t11 : tie.Need-add-t11
-add-t11 c = search needs
-
 beyond-requires-3 : tie.Need-beyond-requires-3
 beyond-requires-3 c κs = rw (c .before .before .before .before .before .before .before .before .before .before .before .nominal .ensures) (omega arith)
-
-add-t13 : tie.Need-add-t13
-add-t13 c = search needs
 
 returns : tie.Need-returns
 unfolding codesAt unclippedAt
@@ -60,15 +39,5 @@ returns c =
 pub codes-in-spec : {M : Type 1} → statement M
 codes-in-spec =
     tie.close
-    (tie.spec
-    unclipped-in-requires
-    nominal-requires
-    clip-requires
-    clip-requires-2
-    clip-requires-3
-    beyond-requires
-    beyond-requires-2
-    add-t11
-    beyond-requires-3
-    add-t13
-    returns)
+    (tie.spec (λ c κs. search needs) (λ c κs. search needs) (λ c κs. search needs) (λ c κs. search needs) (λ c κs. search needs) beyond-requires
+    beyond-requires-2 (λ c. search needs) beyond-requires-3 (λ c. search needs) returns)

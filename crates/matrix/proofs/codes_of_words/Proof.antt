@@ -6,23 +6,11 @@ use Rattle.matrix.proofs.Tested.{nominal-words, twelve-bits}
 use Rattle.matrix.proofs.codes_of_words.Statement.{statement}
 use Rattle.matrix.proofs.codes_of_words.Tie as tie
 
-from-number-requires : tie.Need-from-number-requires
-from-number-requires c κs = search needs
-
-enum-known-y : tie.Need-enum-known-y
-enum-known-y c = search needs
-
-nominal-in-requires : tie.Need-nominal-in-requires
-nominal-in-requires c κs = search needs
-
 codes-in-requires : tie.Need-codes-in-requires
 codes-in-requires c κs =
     let named = c .before .before .before in
     let y = named .y .given .0 .0 in
     twelve-bits (scale y) (named .before .before .before .args .words) (scale-range y .1) (nominal-words y (named .before .before .before .args .words) (sym (c .before .nominal-in .ensures) ∙ c .if1 .taken))
-
-enum-told : tie.Need-enum-told
-enum-told c = search needs
 
 returns : tie.Need-returns
 returns c =
@@ -41,12 +29,5 @@ returns-3 c = rw (sym (c .before .before .from-number .ensures), c .enum-told .g
 pub codes-of-words-spec : {M : Type 1} → statement M
 codes-of-words-spec =
     tie.close
-    (tie.spec
-    from-number-requires
-    enum-known-y
-    nominal-in-requires
-    codes-in-requires
-    enum-told
-    returns
-    returns-2
+    (tie.spec (λ c κs. search needs) (λ c. search needs) (λ c κs. search needs) codes-in-requires (λ c. search needs) returns returns-2
     returns-3)

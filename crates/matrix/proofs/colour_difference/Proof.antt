@@ -65,9 +65,6 @@ step-read c =
     toZ-ofZ w64 (c .fixed .result) (sfits-of (c .fixed .ok)) ∙ c .fixed .ensures
     ∙ (λ i. pos (fixed 224 (natAbs (bottom-is (c .before) i))))
 
-mul-fixed : tie.Need-mul-fixed
-mul-fixed c = search needs
-
 sub-fixed : tie.Need-sub-fixed
 sub-fixed c = rw (own-is c) (fits-i64 (pos (10000 - weight c)) (omega arith))
 
@@ -77,17 +74,8 @@ mul-fixed-2 c = rw (own-is c, own-read c) (fits-i64 (pos (bottom c)) (omega arit
 fixed-requires : tie.Need-fixed-requires
 fixed-requires c κs = rw (bottom-is c) (record { lt = tt }, is-positive (bottom c) (omega (arith, c .pre .2)), omega arith, omega (arith, c .pre .2))
 
-cast-sum : tie.Need-cast-sum
-cast-sum c = search needs
-
 mul-sum : tie.Need-mul-sum
 mul-sum c = let s = c .before in rw (m-read s) (fits-i64 (pos (m s * unit)) (omega (arith, s .pre .3)))
-
-div-sum : tie.Need-div-sum
-div-sum c = search needs
-
-add-sum : tie.Need-add-sum
-add-sum c = search needs
 
 add-sum-2 : tie.Need-add-sum-2
 add-sum-2 c = let s = c .before in rw (m-read s, m-unit-read s) (fits-i64 (pos (start (m s))) (omega (arith, s .pre .3)))
@@ -98,12 +86,6 @@ mul-sum-2 c = let s = c .before in rw (above-read s, step-read c) (fits-i64 (tak
 sub-sum : tie.Need-sub-sum
 sub-sum c = let s = c .before in rw (above-read s, step-read c, m-read s, m-unit-read s, start-read s, reads-back (taken s) (taken-fits s)) (fits-i64 (sum s) (sum-fits s))
 
-cast-result : tie.Need-cast-result
-cast-result c = search needs
-
-shr-result : tie.Need-shr-result
-shr-result c = search needs
-
 returns : tie.Need-returns
 returns c =
     let s = c .before in
@@ -113,18 +95,5 @@ returns c =
 pub colour-difference-spec : {M : Type 1} → statement M
 colour-difference-spec =
     tie.close
-    (tie.spec
-    mul-fixed
-    sub-fixed
-    mul-fixed-2
-    fixed-requires
-    cast-sum
-    mul-sum
-    div-sum
-    add-sum
-    add-sum-2
-    mul-sum-2
-    sub-sum
-    cast-result
-    shr-result
-    returns)
+    (tie.spec (λ c. search needs) sub-fixed mul-fixed-2 fixed-requires (λ c. search needs) mul-sum (λ c. search needs) (λ c. search needs)
+    add-sum-2 mul-sum-2 sub-sum (λ c. search needs) (λ c. search needs) returns)

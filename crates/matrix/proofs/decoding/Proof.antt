@@ -11,15 +11,6 @@ use Rattle.matrix.proofs.decoding.Tie as tie
 row : (c : tie.After-weights) → Row Bt709 (c .before .args .x) (c .weights .result) ⊎ Row Bt2020 (c .before .args .x) (c .weights .result)
 row c = row-of (c .before .args .x) (c .weights .result) (c .weights .ensures)
 
-weights-requires : tie.Need-weights-requires
-weights-requires c κs = search needs
-
-mul-y : tie.Need-mul-y
-mul-y c = search needs
-
-mul-cr : tie.Need-mul-cr
-mul-cr c = search needs
-
 sub-cr : tie.Need-sub-cr
 sub-cr c = elim (row (c .before .before)) [
   | inl e ↦ rw (e .1) record { sfits = lit< tt }
@@ -31,9 +22,6 @@ mul-cr-2 c = elim (row (c .before .before)) [
   | inl e ↦ rw (e .1) record { sfits = lit< tt }
   | inr e ↦ rw (e .1) record { sfits = lit< tt }
 ]
-
-mul-cb : tie.Need-mul-cb
-mul-cb c = search needs
 
 sub-cb : tie.Need-sub-cb
 sub-cb c = elim (row (c .before .before .before .before)) [
@@ -117,23 +105,5 @@ returns c = elim (row (c .before .before .before .before .before .before .before
 pub decoding-spec : {M : Type 1} → statement M
 decoding-spec =
     tie.close
-    (tie.spec
-    weights-requires
-    mul-y
-    mul-cr
-    sub-cr
-    mul-cr-2
-    mul-cb
-    sub-cb
-    mul-cb-2
-    mul-fixed
-    mul-fixed-2
-    fixed-requires
-    mul-fixed-3
-    mul-fixed-4
-    fixed-requires-2
-    fixed-requires-3
-    sub-t9
-    sub-t11
-    fixed-requires-4
-    returns)
+    (tie.spec (λ c κs. search needs) (λ c. search needs) (λ c. search needs) sub-cr mul-cr-2 (λ c. search needs) sub-cb mul-cb-2 mul-fixed
+    mul-fixed-2 fixed-requires mul-fixed-3 mul-fixed-4 fixed-requires-2 fixed-requires-3 sub-t9 sub-t11 fixed-requires-4 returns)

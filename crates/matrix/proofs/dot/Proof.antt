@@ -57,20 +57,8 @@ module _ (s : tie.Start) where
   sum-012 : toZ w64 (ofZ w64 (entry 0 +ℤ entry 1 +ℤ entry 2)) ≡ entry 0 +ℤ entry 1 +ℤ entry 2
   sum-012 = read (entry 0 +ℤ entry 1 +ℤ entry 2) (omega (arith, dotted-small _ _ (s .pre)))
 
-array-copy-out-result : tie.Need-array-copy-out-result
-array-copy-out-result c = search needs
-
-array-copy-out-result-2 : tie.Need-array-copy-out-result-2
-array-copy-out-result-2 c = search needs
-
 mul-result : tie.Need-mul-result
 mul-result c = let s = c .before .before in rw (row-0 s, triple-0 s) (fits-i64 (entry s 0) (omega (arith, size-0 _ _ (s .pre))))
-
-array-copy-out-result-3 : tie.Need-array-copy-out-result-3
-array-copy-out-result-3 c = search needs
-
-array-copy-out-result-4 : tie.Need-array-copy-out-result-4
-array-copy-out-result-4 c = search needs
 
 mul-result-2 : tie.Need-mul-result-2
 mul-result-2 c = let s = c .before .before .before .before in rw (row-1 s, triple-1 s) (fits-i64 (entry s 1) (omega (arith, size-1 _ _ (s .pre))))
@@ -80,12 +68,6 @@ add-result c =
     let s = c .before .before .before .before in
     rw (row-0 s, triple-0 s, row-1 s, triple-1 s, product-0 s, product-1 s)
     (fits-i64 (entry s 0 +ℤ entry s 1) (omega (arith, size-sum _ _ (s .pre))))
-
-array-copy-out-result-5 : tie.Need-array-copy-out-result-5
-array-copy-out-result-5 c = search needs
-
-array-copy-out-result-6 : tie.Need-array-copy-out-result-6
-array-copy-out-result-6 c = search needs
 
 mul-result-3 : tie.Need-mul-result-3
 mul-result-3 c = let s = c .before .before .before .before .before .before in rw (row-2 s, triple-2 s) (fits-i64 (entry s 2) (omega (arith, size-2 _ _ (s .pre))))
@@ -104,16 +86,5 @@ returns c =
 pub dot-spec : {M : Type 1} → statement M
 dot-spec =
     tie.close
-    (tie.spec
-    array-copy-out-result
-    array-copy-out-result-2
-    mul-result
-    array-copy-out-result-3
-    array-copy-out-result-4
-    mul-result-2
-    add-result
-    array-copy-out-result-5
-    array-copy-out-result-6
-    mul-result-3
-    add-result-2
-    returns)
+    (tie.spec (λ c. search needs) (λ c. search needs) mul-result (λ c. search needs) (λ c. search needs) mul-result-2 add-result
+    (λ c. search needs) (λ c. search needs) mul-result-3 add-result-2 returns)

@@ -11,9 +11,6 @@ use Rattle.matrix.proofs.encoding.Tie as tie
 row : (c : tie.After-weights) → Row Bt709 (c .before .args .x) (c .weights .result) ⊎ Row Bt2020 (c .before .args .x) (c .weights .result)
 row c = row-of (c .before .args .x) (c .weights .result) (c .weights .ensures)
 
-weights-requires : tie.Need-weights-requires
-weights-requires c κs = search needs
-
 sub-t4 : tie.Need-sub-t4
 sub-t4 c = elim (row (c .before .before .before)) [
   | inl e ↦ rw (e .1) record { sfits = lit< tt }
@@ -34,4 +31,4 @@ returns c = elim (row (c .before .before .before .before .before .before .before
 ]
 
 pub encoding-spec : {M : Type 1} → statement M
-encoding-spec = tie.close (tie.spec weights-requires sub-t4 sub-t6 returns)
+encoding-spec = tie.close (tie.spec (λ c κs. search needs) sub-t4 sub-t6 returns)

@@ -23,12 +23,6 @@ module _ (c : tie.Start) where
   small : natAbs difference < 2 ^ 63
   small = omega (arith, natAbs-less (pos (c .args .word)) (pos (c .args .middle)))
 
-cast-result : tie.Need-cast-result
-cast-result c = search needs
-
-cast-result-2 : tie.Need-cast-result-2
-cast-result-2 c = search needs
-
 sub-result : tie.Need-sub-result
 sub-result c = rw (word-read c, middle-read c) (fits-i64 (difference c) (small c))
 
@@ -36,4 +30,4 @@ returns : tie.Need-returns
 returns c = rw (word-read c, middle-read c) (reads-back (difference c) (small c))
 
 pub signed-spec : {M : Type 1} → statement M
-signed-spec = tie.close (tie.spec cast-result cast-result-2 sub-result returns)
+signed-spec = tie.close (tie.spec (λ c. search needs) (λ c. search needs) sub-result returns)

@@ -21,41 +21,17 @@ cb-read c = toZ-ofZ w64 (c .signed .result) (sfits-of (c .signed .ok)) ∙ c .si
 cr-read : (c : tie.After-signed2) → let s = c .before .before .before .before .before in toZ w64 (ofZ w64 (c .signed2 .result)) ≡ signed (scale (s .args .y)) (s .args .w .cr)
 cr-read c = toZ-ofZ w64 (c .signed2 .result) (sfits-of (c .signed2 .ok)) ∙ c .signed2 .ensures ∙ (λ i. pos (c .before .before .before .before .before .args .w .cr) -ℤ pos (c .before .before .before .middle .ensures i))
 
-decoding-requires : tie.Need-decoding-requires
-decoding-requires c κs = search needs
-
-middle-requires : tie.Need-middle-requires
-middle-requires c κs = search needs
-
-cast-t8 : tie.Need-cast-t8
-cast-t8 c = search needs
-
-signed-requires : tie.Need-signed-requires
-signed-requires c κs = search needs
-
-signed-requires-2 : tie.Need-signed-requires-2
-signed-requires-2 c κs = search needs
-
-array-copy-out-primary : tie.Need-array-copy-out-primary
-array-copy-out-primary c = search needs
-
 primary-requires : tie.Need-primary-requires
 primary-requires c κs =
     let d = c .before in
     let s = d .before .before .before .before .before in
     rw (d .before .before .before .before .decoding .ensures, y-read s, cb-read (d .before), cr-read d) (rows-small (scale (s .args .y)) (s .args .w) (scale-range (s .args .y) .1) (s .pre) (s .args .x) .0)
 
-array-copy-out-primary-2 : tie.Need-array-copy-out-primary-2
-array-copy-out-primary-2 c = search needs
-
 primary-requires-2 : tie.Need-primary-requires-2
 primary-requires-2 c κs =
     let d = c .before .before .before in
     let s = d .before .before .before .before .before in
     rw (d .before .before .before .before .decoding .ensures, y-read s, cb-read (d .before), cr-read d) (rows-small (scale (s .args .y)) (s .args .w) (scale-range (s .args .y) .1) (s .pre) (s .args .x) .1)
-
-array-copy-out-primary-3 : tie.Need-array-copy-out-primary-3
-array-copy-out-primary-3 c = search needs
 
 primary-requires-3 : tie.Need-primary-requires-3
 primary-requires-3 c κs =
@@ -75,16 +51,5 @@ returns c =
 pub unclipped-by-spec : {M : Type 1} → statement M
 unclipped-by-spec =
     tie.close
-    (tie.spec
-    decoding-requires
-    middle-requires
-    cast-t8
-    signed-requires
-    signed-requires-2
-    array-copy-out-primary
-    primary-requires
-    array-copy-out-primary-2
-    primary-requires-2
-    array-copy-out-primary-3
-    primary-requires-3
-    returns)
+    (tie.spec (λ c κs. search needs) (λ c κs. search needs) (λ c. search needs) (λ c κs. search needs) (λ c κs. search needs)
+    (λ c. search needs) primary-requires (λ c. search needs) primary-requires-2 (λ c. search needs) primary-requires-3 returns)

@@ -103,53 +103,14 @@ cr-read c =
     ∙ (λ i. rounded (colourDifference (red-read d i) (natAbs (weights-read w .1 i)) (m .middle .ensures i)))
     ∙ difference-is (s .args .x) (codes s) (128 * scale (s .args .y)) (kr (s .args .x)) (codes s .r)
 
-weights-requires : tie.Need-weights-requires
-weights-requires c κs = search needs
-
-encoding-requires : tie.Need-encoding-requires
-encoding-requires c κs = search needs
-
-middle-requires : tie.Need-middle-requires
-middle-requires c κs = search needs
-
-array-read-int-of : tie.Need-array-read-int-of
-array-read-int-of c = search needs
-
-cast-int-of : tie.Need-cast-int-of
-cast-int-of c = search needs
-
-array-read-t16 : tie.Need-array-read-t16
-array-read-t16 c = search needs
-
-cast-t17 : tie.Need-cast-t17
-cast-t17 c = search needs
-
-array-read-t20 : tie.Need-array-read-t20
-array-read-t20 c = search needs
-
-cast-t21 : tie.Need-cast-t21
-cast-t21 c = search needs
-
-array-copy-out-dot : tie.Need-array-copy-out-dot
-array-copy-out-dot c = search needs
-
 dot-requires : tie.Need-dot-requires
 dot-requires c κs = small (c .before .before) .0
 
 cast-int-of-2 : tie.Need-cast-int-of-2
 cast-int-of-2 c = rw (luma-read c) (tt, record { fits = omega (arith, weighted-small (c .before .before .before .before .before)) })
 
-cast-int-of-3 : tie.Need-cast-int-of-3
-cast-int-of-3 c = search needs
-
 int-of-requires : tie.Need-int-of-requires
 int-of-requires c κs = rw (luma-read c) (lit< tt, refl, omega (arith, weighted-small (c .before .before .before .before .before)))
-
-cast-t21-2 : tie.Need-cast-t21-2
-cast-t21-2 c = search needs
-
-array-copy-out-dot-2 : tie.Need-array-copy-out-dot-2
-array-copy-out-dot-2 c = search needs
 
 dot-requires-2 : tie.Need-dot-requires-2
 dot-requires-2 c κs = small (c .before .before .before .before .before) .1
@@ -163,9 +124,6 @@ colour-difference-requires c κs =
     let k = weights-between (s .args .x) in
     rw (weights-read w .0, blue-read d, m .middle .ensures)
     (is-positive _ (omega (arith, k .0 .0)), k .0 .0, k .0 .1, omega (arith, scale-range (s .args .y)), above-small (codes s) (s .pre) (s .args .x) (codes s .b) (s .pre .b-high))
-
-array-copy-out-dot-3 : tie.Need-array-copy-out-dot-3
-array-copy-out-dot-3 c = search needs
 
 dot-requires-3 : tie.Need-dot-requires-3
 dot-requires-3 c κs = small (c .before .before .before .before .before .before .before .before .before) .2
@@ -190,26 +148,7 @@ returns c =
 pub unlimited-by-spec : {M : Type 1} → statement M
 unlimited-by-spec =
     tie.close
-    (tie.spec
-    weights-requires
-    encoding-requires
-    middle-requires
-    array-read-int-of
-    cast-int-of
-    array-read-t16
-    cast-t17
-    array-read-t20
-    cast-t21
-    array-copy-out-dot
-    dot-requires
-    cast-int-of-2
-    cast-int-of-3
-    int-of-requires
-    cast-t21-2
-    array-copy-out-dot-2
-    dot-requires-2
-    colour-difference-requires
-    array-copy-out-dot-3
-    dot-requires-3
-    colour-difference-requires-2
-    returns)
+    (tie.spec (λ c κs. search needs) (λ c κs. search needs) (λ c κs. search needs) (λ c. search needs) (λ c. search needs) (λ c. search needs)
+    (λ c. search needs) (λ c. search needs) (λ c. search needs) (λ c. search needs) dot-requires cast-int-of-2 (λ c. search needs)
+    int-of-requires (λ c. search needs) (λ c. search needs) dot-requires-2 colour-difference-requires (λ c. search needs) dot-requires-3
+    colour-difference-requires-2 returns)

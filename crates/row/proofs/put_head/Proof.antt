@@ -8,35 +8,8 @@ use borrow.Author.Needs.{needs}
 use Rattle.row.proofs.put_head.Statement.{statement}
 use Rattle.row.proofs.put_head.Tie as tie
 
-number-requires : tie.Need-number-requires
-number-requires c κs = search needs
-
 cast-put-byte : tie.Need-cast-put-byte
 cast-put-byte c = omega (arith, c .number .ensures, number-small (c .before .before .args .y))
-
-put-byte-requires : tie.Need-put-byte-requires
-put-byte-requires c κs = search needs
-
-put-field-requires : tie.Need-put-field-requires
-put-field-requires c κs = search needs
-
-put-field-requires-2 : tie.Need-put-field-requires-2
-put-field-requires-2 c κs = search needs
-
-cb-count-requires : tie.Need-cb-count-requires
-cb-count-requires c κs = search needs
-
-put-field-requires-3 : tie.Need-put-field-requires-3
-put-field-requires-3 c κs = search needs
-
-cr-count-requires : tie.Need-cr-count-requires
-cr-count-requires c κs = search needs
-
-put-field-requires-4 : tie.Need-put-field-requires-4
-put-field-requires-4 c κs = search needs
-
-same-length : tie.Need-same-length
-same-length c = search needs
 
 returns : tie.Need-returns
 returns c =
@@ -56,15 +29,5 @@ returns c =
 pub put-head-spec : {M : Type 1} → statement M
 put-head-spec =
     tie.close
-    (tie.spec
-    number-requires
-    cast-put-byte
-    put-byte-requires
-    put-field-requires
-    put-field-requires-2
-    cb-count-requires
-    put-field-requires-3
-    cr-count-requires
-    put-field-requires-4
-    same-length
-    returns)
+    (tie.spec (λ c κs. search needs) cast-put-byte (λ c κs. search needs) (λ c κs. search needs) (λ c κs. search needs) (λ c κs. search needs)
+    (λ c κs. search needs) (λ c κs. search needs) (λ c κs. search needs) (λ c. search needs) returns)

@@ -35,9 +35,6 @@ holds-case-requires c κs = c .loop .inv .within
 case-at-requires : tie.Need-case-at-requires Inv-loop μ-loop
 case-at-requires c κs = omega (arith, whole-fits (now (c .before .before .before .before .args .cases)) (c .before .before .loop .at) (sym (c .before .holds-case .ensures) ∙ c .if1 .taken))
 
-size-requires : tie.Need-size-requires Inv-loop μ-loop
-size-requires c κs = search needs
-
 add-with-case : tie.Need-add-with-case Inv-loop μ-loop
 add-with-case c = omega (arith, fits c, sized c)
 
@@ -73,31 +70,11 @@ loop-again c =
 sub-ended : tie.Need-sub-ended Inv-loop μ-loop
 sub-ended c = c .before .before .loop .inv .within
 
-ended-requires : tie.Need-ended-requires Inv-loop μ-loop
-ended-requires c κs = search needs
-
 returns : tie.Need-returns Inv-loop μ-loop
 returns c = all-counted (c .before .before .before .loop .inv) (sym (c .before .before .holds-case .ensures) ∙ c .before .if1 .left) (c .ended .ensures)
 
 pub compare-spec : {M : Type 1} → statement M
 compare-spec =
     tie.close
-    (tie.spec
-    Inv-loop
-    μ-loop
-    loop-holds
-    holds-case-requires
-    case-at-requires
-    size-requires
-    add-with-case
-    add-with-case-2
-    sub-with-case
-    part-with-case-start
-    part-with-case-end
-    with-case-requires
-    add-at
-    loop-less
-    loop-again
-    sub-ended
-    ended-requires
-    returns)
+    (tie.spec Inv-loop μ-loop loop-holds holds-case-requires case-at-requires (λ c κs. search needs) add-with-case add-with-case-2 sub-with-case
+    part-with-case-start part-with-case-end with-case-requires add-at loop-less loop-again sub-ended (λ c κs. search needs) returns)

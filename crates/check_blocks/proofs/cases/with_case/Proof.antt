@@ -3,12 +3,6 @@ use borrow.Author.Needs.{needs}
 use Rattle.check_blocks.proofs.cases.with_case.Statement.{statement}
 use Rattle.check_blocks.proofs.cases.with_case.Tie as tie
 
-is-met-requires : tie.Need-is-met-requires
-is-met-requires c κs = search needs
-
-with-requires : tie.Need-with-requires
-with-requires c κs = search needs
-
 returns : tie.Need-returns
 returns c = simp (eq-eqb _ _ (c .before .before .if1 .taken), c .with .ensures, c .before .is-met .ensures)
 
@@ -16,4 +10,4 @@ returns-2 : tie.Need-returns-2
 returns-2 c = simp (ne-eqb _ _ (c .if1 .left))
 
 pub with-case-spec : {M : Type 1} → statement M
-with-case-spec = tie.close (tie.spec is-met-requires with-requires returns returns-2)
+with-case-spec = tie.close (tie.spec (λ c κs. search needs) (λ c κs. search needs) returns returns-2)

@@ -23,20 +23,8 @@ returns c =
     let l = c .before .before .loop .inv in
     (omega (arith, put-long (l .0)), (omega (arith, put-long (l .0), l .1), l .0 .words))
 
-mul-u16-at : tie.Need-mul-u16-at Inv-loop μ-loop
-mul-u16-at c = search needs
-
-u16-at-requires : tie.Need-u16-at-requires Inv-loop μ-loop
-u16-at-requires c κs = search needs
-
 mul-lights : tie.Need-mul-lights Inv-loop μ-loop
 mul-lights c = omega (arith, put-long (c .before .before .before .loop .inv .0))
-
-slice-write-lights : tie.Need-slice-write-lights Inv-loop μ-loop
-slice-write-lights c = search needs
-
-add-i : tie.Need-add-i Inv-loop μ-loop
-add-i c = search needs
 
 loop-less : tie.Need-loop-less Inv-loop μ-loop
 loop-less c = omega (arith, put-long (c .before .before .before .loop .inv .0))
@@ -55,18 +43,5 @@ returns-2 c =
 pub decode-spec : {M : Type 1} → statement M
 decode-spec =
     tie.close
-    (tie.spec
-    Inv-loop
-    μ-loop
-    loop-holds
-    same-length
-    returns
-    mul-u16-at
-    u16-at-requires
-    mul-lights
-    slice-write-lights
-    add-i
-    loop-less
-    loop-again
-    same-length-2
-    returns-2)
+    (tie.spec Inv-loop μ-loop loop-holds same-length returns (λ c. search needs) (λ c κs. search needs) mul-lights (λ c. search needs)
+    (λ c. search needs) loop-less loop-again same-length-2 returns-2)

@@ -12,16 +12,5 @@ slice-aggregate-same c = sym (length-take-le _ _ (search needs))
 slice-aggregate-same-2 : tie.Need-slice-aggregate-same-2
 slice-aggregate-same-2 c = sym (length-take-le _ _ (search needs))
 
-same-requires : tie.Need-same-requires
-same-requires c κs = search needs
-
-returns : tie.Need-returns
-returns c = search needs
-
-returns-2 : tie.Need-returns-2
-returns-2 c = search needs
-
 pub begin-alike-spec : {M : Type 1} → statement M
-begin-alike-spec =
-    tie.close
-    (tie.spec slice-aggregate-same slice-aggregate-same-2 same-requires returns returns-2)
+begin-alike-spec = tie.close (tie.spec slice-aggregate-same slice-aggregate-same-2 (λ c κs. search needs) (λ c. search needs) (λ c. search needs))

@@ -19,21 +19,6 @@ loop-holds : tie.Need-loop-holds Inv-loop μ-loop
 unfolding dueTo
 loop-holds c = (refl, search needs)
 
-mul-is-due : tie.Need-mul-is-due Inv-loop μ-loop
-mul-is-due c = search needs
-
-shared-slice-read-is-due : tie.Need-shared-slice-read-is-due Inv-loop μ-loop
-shared-slice-read-is-due c = search needs
-
-is-due-requires : tie.Need-is-due-requires Inv-loop μ-loop
-is-due-requires c κs = search needs
-
-add-i : tie.Need-add-i Inv-loop μ-loop
-add-i c = search needs
-
-loop-less : tie.Need-loop-less Inv-loop μ-loop
-loop-less c = search needs
-
 loop-again : tie.Need-loop-again Inv-loop μ-loop
 unfolding dueTo
 loop-again c = (rw (add-one, c .is-due .ensures, c .before .before .before .loop .inv .0), search needs)
@@ -47,14 +32,5 @@ returns c =
 pub are-due-spec : {M : Type 1} → statement M
 are-due-spec =
     tie.close
-    (tie.spec
-    Inv-loop
-    μ-loop
-    loop-holds
-    mul-is-due
-    shared-slice-read-is-due
-    is-due-requires
-    add-i
-    loop-less
-    loop-again
-    returns)
+    (tie.spec Inv-loop μ-loop loop-holds (λ c. search needs) (λ c. search needs) (λ c κs. search needs) (λ c. search needs) (λ c. search needs)
+    loop-again returns)

@@ -7,9 +7,6 @@ use Rattle.check_pictures.proofs.reading.is_met.Statement.{statement}
 use Rattle.check_pictures.proofs.reading.is_met.Tie as tie
 use Rattle.check_pictures.proofs.reading.is_met.Reads as reads
 
-block-length-requires : tie.Need-block-length-requires
-block-length-requires c κs = search needs
-
 returns : tie.Need-returns
 returns c = simp (eq-eqb _ _ (sym (c .before .block-length .ensures .0) ∙ c .if1 .taken))
 
@@ -17,12 +14,6 @@ returns-2 : tie.Need-returns-2
 returns-2 c =
     let length = c .before .before .block-length .ensures .0 in
     simp (ne-eqb _ _ (λ e. c .before .if1 .left (length ∙ e)), lt-leb _ _ (rw length at (c .if2 .taken)))
-
-cast-places : tie.Need-cast-places
-cast-places c = search needs
-
-mul-places : tie.Need-mul-places
-mul-places c = search needs
 
 returns-3 : tie.Need-returns-3
 returns-3 c =
@@ -32,14 +23,8 @@ returns-3 c =
 slice-aggregate-reads : tie.Need-slice-aggregate-reads
 slice-aggregate-reads c = sym (length-take-le _ _ (omega arith))
 
-array-borrow-prefix-codes : tie.Need-array-borrow-prefix-codes
-array-borrow-prefix-codes c = search needs
-
 slice-aggregate-reads-2 : tie.Need-slice-aggregate-reads-2
 slice-aggregate-reads-2 c = sym (length-take-le _ _ (omega arith))
-
-reads-requires : tie.Need-reads-requires
-reads-requires c κs = search needs
 
 returns-4 : tie.Need-returns-4
 returns-4 c =
@@ -50,15 +35,5 @@ returns-4 c =
 pub is-met-spec : {M : Type 1} → statement M
 is-met-spec =
     tie.close
-    (tie.spec
-    block-length-requires
-    returns
-    returns-2
-    cast-places
-    mul-places
-    returns-3
-    slice-aggregate-reads
-    array-borrow-prefix-codes
-    slice-aggregate-reads-2
-    reads-requires
-    returns-4)
+    (tie.spec (λ c κs. search needs) returns returns-2 (λ c. search needs) (λ c. search needs) returns-3 slice-aggregate-reads
+    (λ c. search needs) slice-aggregate-reads-2 (λ c κs. search needs) returns-4)

@@ -2,55 +2,11 @@ use borrow.Author.Needs.{needs}
 use Rattle.check_triples.proofs.codes.case_at.Statement.{statement}
 use Rattle.check_triples.proofs.codes.case_at.Tie as tie
 
-u32-at-requires : tie.Need-u32-at-requires
-u32-at-requires c κs = search needs
-
-add-u16-at : tie.Need-add-u16-at
-add-u16-at c = search needs
-
-u16-at-requires : tie.Need-u16-at-requires
-u16-at-requires c κs = search needs
-
-wide-requires : tie.Need-wide-requires
-wide-requires c κs = search needs
-
-add-words : tie.Need-add-words
-add-words c = search needs
-
-words-requires : tie.Need-words-requires
-words-requires c κs = search needs
-
-add-codes : tie.Need-add-codes
-add-codes c = search needs
-
-codes-requires : tie.Need-codes-requires
-codes-requires c κs = search needs
-
-add-u16-at-2 : tie.Need-add-u16-at-2
-add-u16-at-2 c = search needs
-
-u16-at-requires-2 : tie.Need-u16-at-requires-2
-u16-at-requires-2 c κs = search needs
-
-wide-requires-2 : tie.Need-wide-requires-2
-wide-requires-2 c κs = search needs
-
 returns : tie.Need-returns
 returns c = rw (c .before .before .before .before .before .before .u32-at .ensures, c .before .before .before .before .wide .ensures, c .before .before .before .before .before .u16-at .ensures, c .before .before .before .words .ensures, c .before .before .codes .ensures, c .wide2 .ensures, c .before .u16-at2 .ensures)
 
 pub case-at-spec : {M : Type 1} → statement M
 case-at-spec =
     tie.close
-    (tie.spec
-    u32-at-requires
-    add-u16-at
-    u16-at-requires
-    wide-requires
-    add-words
-    words-requires
-    add-codes
-    codes-requires
-    add-u16-at-2
-    u16-at-requires-2
-    wide-requires-2
-    returns)
+    (tie.spec (λ c κs. search needs) (λ c. search needs) (λ c κs. search needs) (λ c κs. search needs) (λ c. search needs)
+    (λ c κs. search needs) (λ c. search needs) (λ c κs. search needs) (λ c. search needs) (λ c κs. search needs) (λ c κs. search needs) returns)

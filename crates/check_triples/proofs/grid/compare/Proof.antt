@@ -15,34 +15,10 @@ abbrev μ-loop : tie.MeasureT-loop
 loop-holds : tie.Need-loop-holds Inv-loop μ-loop
 loop-holds c = none-yet _ _
 
-codes-at-requires : tie.Need-codes-at-requires Inv-loop μ-loop
-codes-at-requires c κs = search needs
-
-mul-words-at : tie.Need-mul-words-at Inv-loop μ-loop
-mul-words-at c = search needs
-
-words-at-requires : tie.Need-words-at-requires Inv-loop μ-loop
-words-at-requires c κs = search needs
-
-has-words-requires : tie.Need-has-words-requires Inv-loop μ-loop
-has-words-requires c κs = search needs
-
-with-requires : tie.Need-with-requires Inv-loop μ-loop
-with-requires c κs = search needs
-
-add-i : tie.Need-add-i Inv-loop μ-loop
-add-i c = search needs
-
-loop-less : tie.Need-loop-less Inv-loop μ-loop
-loop-less c = search needs
-
 loop-again : tie.Need-loop-again Inv-loop μ-loop
 loop-again c =
     let here = rw (c .before .before .before .codes-at .ensures, c .before .before .words-at .ensures) at (c .before .has-words .ensures) in
     one-more (c .before .before .before .before .before .loop .inv) (c .before .before .before .before .loop-test .taken) here (c .with .ensures)
-
-ended-requires : tie.Need-ended-requires Inv-loop μ-loop
-ended-requires c κs = search needs
 
 returns : tie.Need-returns Inv-loop μ-loop
 returns c = all-counted (c .before .before .loop .inv) _ (c .before .loop-test .left) (c .ended .ensures)
@@ -50,17 +26,5 @@ returns c = all-counted (c .before .before .loop .inv) _ (c .before .loop-test .
 pub compare-spec : {M : Type 1} → statement M
 compare-spec =
     tie.close
-    (tie.spec
-    Inv-loop
-    μ-loop
-    loop-holds
-    codes-at-requires
-    mul-words-at
-    words-at-requires
-    has-words-requires
-    with-requires
-    add-i
-    loop-less
-    loop-again
-    ended-requires
-    returns)
+    (tie.spec Inv-loop μ-loop loop-holds (λ c κs. search needs) (λ c. search needs) (λ c κs. search needs) (λ c κs. search needs)
+    (λ c κs. search needs) (λ c. search needs) (λ c. search needs) loop-again (λ c κs. search needs) returns)

@@ -18,15 +18,8 @@ float-from-bits-result : tie.Need-float-from-bits-result
 float-from-bits-result c =
     subst (λ (b : Bool). T (not b)) (sym (nanBits-above binary32 (c .before .args .bits) ∙ le-ltb _ _ (c .if1 .taken))) tt
 
-not-a-number-requires : tie.Need-not-a-number-requires
-not-a-number-requires c κs = search needs
-
-returns : tie.Need-returns
-returns c = search needs
-
 returns-2 : tie.Need-returns-2
 returns-2 c = c .not-a-number .ensures ∙ is-nan _ (sym (nanBits-is binary32 (c .before .before .args .bits)) ∙ nanBits-above binary32 (c .before .before .args .bits) ∙ lt-ltb _ _ (c .before .if1 .left))
 
 pub from-bits-spec : {M : Type 1} → statement M
-from-bits-spec =
-    tie.close (tie.spec float-from-bits-result not-a-number-requires returns returns-2)
+from-bits-spec = tie.close (tie.spec float-from-bits-result (λ c κs. search needs) (λ c. search needs) returns-2)

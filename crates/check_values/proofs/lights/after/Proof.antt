@@ -3,15 +3,6 @@ use borrow.Author.Needs.{needs}
 use Rattle.check_values.proofs.lights.after.Statement.{statement}
 use Rattle.check_values.proofs.lights.after.Tie as tie
 
-is-black-requires : tie.Need-is-black-requires
-is-black-requires c κs = search needs
-
-cast-result : tie.Need-cast-result
-cast-result c = search needs
-
-add-result : tie.Need-add-result
-add-result c = search needs
-
 returns : tie.Need-returns
 returns c = simp (sym (c .before .is-black .ensures) ∙ c .if1 .taken)
 
@@ -19,4 +10,4 @@ returns-2 : tie.Need-returns-2
 returns-2 c = simp (sym (c .before .before .is-black .ensures) ∙ c .before .if1 .left)
 
 pub after-spec : {M : Type 1} → statement M
-after-spec = tie.close (tie.spec is-black-requires cast-result add-result returns returns-2)
+after-spec = tie.close (tie.spec (λ c κs. search needs) (λ c. search needs) (λ c. search needs) returns returns-2)

@@ -19,36 +19,12 @@ loop-holds : tie.Need-loop-holds Inv-loop μ-loop
 unfolding lightsTo firstAt placeAt
 loop-holds c = (refl, refl, refl, search needs)
 
-mul-span-at : tie.Need-mul-span-at Inv-loop μ-loop
-mul-span-at c = search needs
-
-span-at-requires : tie.Need-span-at-requires Inv-loop μ-loop
-span-at-requires c κs = search needs
-
-compare-span-requires : tie.Need-compare-span-requires Inv-loop μ-loop
-compare-span-requires c κs = search needs
-
-next-requires : tie.Need-next-requires Inv-loop μ-loop
-next-requires c κs = search needs
-
-after-requires : tie.Need-after-requires Inv-loop μ-loop
-after-requires c κs = search needs
-
-add-i : tie.Need-add-i Inv-loop μ-loop
-add-i c = search needs
-
-loop-less : tie.Need-loop-less Inv-loop μ-loop
-loop-less c = search needs
-
 loop-again : tie.Need-loop-again Inv-loop μ-loop
 unfolding lightsTo firstAt placeAt
 loop-again c =
     let l = c .before .before .before .before .before .loop in
     let next = rw (l .inv .1) at (c .before .next .ensures) in
     (rw (add-one, c .before .before .compare-span .ensures, c .before .before .before .span-at .ensures, l .inv .0, l .inv .1, l .inv .2), rw (add-one) next, rw (add-one, c .after .ensures, next, c .before .before .before .span-at .ensures), search needs)
-
-ended-requires : tie.Need-ended-requires Inv-loop μ-loop
-ended-requires c κs = search needs
 
 returns : tie.Need-returns Inv-loop μ-loop
 returns c =
@@ -59,17 +35,5 @@ returns c =
 pub compare-lights-spec : {M : Type 1} → statement M
 compare-lights-spec =
     tie.close
-    (tie.spec
-    Inv-loop
-    μ-loop
-    loop-holds
-    mul-span-at
-    span-at-requires
-    compare-span-requires
-    next-requires
-    after-requires
-    add-i
-    loop-less
-    loop-again
-    ended-requires
-    returns)
+    (tie.spec Inv-loop μ-loop loop-holds (λ c. search needs) (λ c κs. search needs) (λ c κs. search needs) (λ c κs. search needs)
+    (λ c κs. search needs) (λ c. search needs) (λ c. search needs) loop-again (λ c κs. search needs) returns)

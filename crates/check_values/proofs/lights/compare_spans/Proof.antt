@@ -18,27 +18,6 @@ loop-holds : tie.Need-loop-holds Inv-loop μ-loop
 unfolding placeAt
 loop-holds c = (none-yet _ _, refl)
 
-mul-span-at : tie.Need-mul-span-at Inv-loop μ-loop
-mul-span-at c = search needs
-
-span-at-requires : tie.Need-span-at-requires Inv-loop μ-loop
-span-at-requires c κs = search needs
-
-is-span-requires : tie.Need-is-span-requires Inv-loop μ-loop
-is-span-requires c κs = search needs
-
-with-requires : tie.Need-with-requires Inv-loop μ-loop
-with-requires c κs = search needs
-
-next-requires : tie.Need-next-requires Inv-loop μ-loop
-next-requires c κs = search needs
-
-add-i : tie.Need-add-i Inv-loop μ-loop
-add-i c = search needs
-
-loop-less : tie.Need-loop-less Inv-loop μ-loop
-loop-less c = search needs
-
 loop-again : tie.Need-loop-again Inv-loop μ-loop
 unfolding placeAt
 loop-again c =
@@ -46,26 +25,11 @@ loop-again c =
     let met = rw (l .inv .1, c .before .before .before .span-at .ensures) at (c .before .before .is-span .ensures) in
     (one-more (l .inv .0) (c .before .before .before .before .loop-test .taken) met (c .before .with .ensures), rw (add-one, c .next .ensures, l .inv .1))
 
-ended-requires : tie.Need-ended-requires Inv-loop μ-loop
-ended-requires c κs = search needs
-
 returns : tie.Need-returns Inv-loop μ-loop
 returns c = all-counted (c .before .before .loop .inv .0) _ (c .before .loop-test .left) (c .ended .ensures)
 
 pub compare-spans-spec : {M : Type 1} → statement M
 compare-spans-spec =
     tie.close
-    (tie.spec
-    Inv-loop
-    μ-loop
-    loop-holds
-    mul-span-at
-    span-at-requires
-    is-span-requires
-    with-requires
-    next-requires
-    add-i
-    loop-less
-    loop-again
-    ended-requires
-    returns)
+    (tie.spec Inv-loop μ-loop loop-holds (λ c. search needs) (λ c κs. search needs) (λ c κs. search needs) (λ c κs. search needs)
+    (λ c κs. search needs) (λ c. search needs) (λ c. search needs) loop-again (λ c κs. search needs) returns)

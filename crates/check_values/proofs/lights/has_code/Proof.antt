@@ -7,15 +7,6 @@ use borrow.Author.Needs.{needs}
 use Rattle.check_values.proofs.lights.has_code.Statement.{statement}
 use Rattle.check_values.proofs.lights.has_code.Tie as tie
 
-code-of-light-requires : tie.Need-code-of-light-requires
-code-of-light-requires c κs = search needs
-
-enum-known-code : tie.Need-enum-known-code
-enum-known-code c = search needs
-
-enum-told : tie.Need-enum-told
-enum-told c = search needs
-
 returns : tie.Need-returns
 returns c =
     let told = ap toldCode (sym (c .before .before .code .given .1)) ∙ c .before .before .before .before .code-of-light .ensures in
@@ -27,5 +18,4 @@ returns-2 c =
     ap (λ (o : Outcome ℕ). codeMet o (c .before .before .before .args .place .code)) told
 
 pub has-code-spec : {M : Type 1} → statement M
-has-code-spec =
-    tie.close (tie.spec code-of-light-requires enum-known-code enum-told returns returns-2)
+has-code-spec = tie.close (tie.spec (λ c κs. search needs) (λ c. search needs) (λ c. search needs) returns returns-2)

@@ -7,15 +7,6 @@ use borrow.Author.Needs.{needs}
 use Rattle.check_values.proofs.lights.is_span.Statement.{statement}
 use Rattle.check_values.proofs.lights.is_span.Tie as tie
 
-span-of-code-requires : tie.Need-span-of-code-requires
-span-of-code-requires c κs = search needs
-
-enum-known-s : tie.Need-enum-known-s
-enum-known-s c = search needs
-
-enum-told : tie.Need-enum-told
-enum-told c = search needs
-
 returns : tie.Need-returns
 returns c =
     let told = ap toldSpan (sym (c .before .before .before .before .before .s .given .1)) ∙ c .before .before .before .before .before .before .before .span-of-code .ensures in
@@ -27,4 +18,4 @@ returns-2 c =
     ap (λ (o : Outcome Span). spanMet o (c .before .before .before .args .span)) told
 
 pub is-span-spec : {M : Type 1} → statement M
-is-span-spec = tie.close (tie.spec span-of-code-requires enum-known-s enum-told returns returns-2)
+is-span-spec = tie.close (tie.spec (λ c κs. search needs) (λ c. search needs) (λ c. search needs) returns returns-2)

@@ -2,17 +2,8 @@ use borrow.Author.Needs.{needs}
 use Rattle.check_values.proofs.lights.span_at.Statement.{statement}
 use Rattle.check_values.proofs.lights.span_at.Tie as tie
 
-u16-at-requires : tie.Need-u16-at-requires
-u16-at-requires c κs = search needs
-
-add-u16-at : tie.Need-add-u16-at
-add-u16-at c = search needs
-
-u16-at-requires-2 : tie.Need-u16-at-requires-2
-u16-at-requires-2 c κs = search needs
-
 returns : tie.Need-returns
 returns c = rw (c .before .u16-at .ensures, c .u16-at2 .ensures)
 
 pub span-at-spec : {M : Type 1} → statement M
-span-at-spec = tie.close (tie.spec u16-at-requires add-u16-at u16-at-requires-2 returns)
+span-at-spec = tie.close (tie.spec (λ c κs. search needs) (λ c. search needs) (λ c κs. search needs) returns)

@@ -7,18 +7,6 @@ use borrow.Author.Needs.{needs}
 use Rattle.check_values.proofs.refusals.codes_refused.Statement.{statement}
 use Rattle.check_values.proofs.refusals.codes_refused.Tie as tie
 
-signals-of-codes-requires : tie.Need-signals-of-codes-requires
-signals-of-codes-requires c κs = search needs
-
-enum-told : tie.Need-enum-told
-enum-told c = search needs
-
-enum-known-refusal : tie.Need-enum-known-refusal
-enum-known-refusal c = search needs
-
-number-requires : tie.Need-number-requires
-number-requires c κs = search needs
-
 returns : tie.Need-returns
 returns c =
     let told = ap restored (sym (c .enum-told .given .1)) ∙ c .before .before .signals-of-codes .ensures in
@@ -30,12 +18,4 @@ returns-2 c =
     rw (c .number .ensures) (ap (λ (o : Outcome Signals). refusedWith o (c .before .before .before .before .before .args .number)) told)
 
 pub codes-refused-spec : {M : Type 1} → statement M
-codes-refused-spec =
-    tie.close
-    (tie.spec
-    signals-of-codes-requires
-    enum-told
-    enum-known-refusal
-    number-requires
-    returns
-    returns-2)
+codes-refused-spec = tie.close (tie.spec (λ c κs. search needs) (λ c. search needs) (λ c. search needs) (λ c κs. search needs) returns returns-2)

@@ -3,42 +3,6 @@ use borrow.Author.Needs.{needs}
 use Rattle.check_values.proofs.refusals.compare_code.Statement.{statement}
 use Rattle.check_values.proofs.refusals.compare_code.Tie as tie
 
-black-requires : tie.Need-black-requires
-black-requires c κs = search needs
-
-span-refused-requires : tie.Need-span-refused-requires
-span-refused-requires c κs = search needs
-
-with-requires : tie.Need-with-requires
-with-requires c κs = search needs
-
-codes-requires : tie.Need-codes-requires
-codes-requires c κs = search needs
-
-codes-refused-requires : tie.Need-codes-refused-requires
-codes-refused-requires c κs = search needs
-
-with-requires-2 : tie.Need-with-requires-2
-with-requires-2 c κs = search needs
-
-codes-requires-2 : tie.Need-codes-requires-2
-codes-requires-2 c κs = search needs
-
-codes-refused-requires-2 : tie.Need-codes-refused-requires-2
-codes-refused-requires-2 c κs = search needs
-
-with-requires-3 : tie.Need-with-requires-3
-with-requires-3 c κs = search needs
-
-codes-requires-3 : tie.Need-codes-requires-3
-codes-requires-3 c κs = search needs
-
-codes-refused-requires-3 : tie.Need-codes-refused-requires-3
-codes-refused-requires-3 c κs = search needs
-
-with-requires-4 : tie.Need-with-requires-4
-with-requires-4 c κs = search needs
-
 returns : tie.Need-returns
 unfolding codeRefused
 returns c =
@@ -47,17 +11,6 @@ returns c =
 pub compare-code-spec : {M : Type 1} → statement M
 compare-code-spec =
     tie.close
-    (tie.spec
-    black-requires
-    span-refused-requires
-    with-requires
-    codes-requires
-    codes-refused-requires
-    with-requires-2
-    codes-requires-2
-    codes-refused-requires-2
-    with-requires-3
-    codes-requires-3
-    codes-refused-requires-3
-    with-requires-4
-    returns)
+    (tie.spec (λ c κs. search needs) (λ c κs. search needs) (λ c κs. search needs) (λ c κs. search needs) (λ c κs. search needs)
+    (λ c κs. search needs) (λ c κs. search needs) (λ c κs. search needs) (λ c κs. search needs) (λ c κs. search needs) (λ c κs. search needs)
+    (λ c κs. search needs) returns)

@@ -7,18 +7,6 @@ use borrow.Author.Needs.{needs}
 use Rattle.check_values.proofs.refusals.light_refused.Statement.{statement}
 use Rattle.check_values.proofs.refusals.light_refused.Tie as tie
 
-code-of-light-requires : tie.Need-code-of-light-requires
-code-of-light-requires c κs = search needs
-
-enum-told : tie.Need-enum-told
-enum-told c = search needs
-
-enum-known-refusal : tie.Need-enum-known-refusal
-enum-known-refusal c = search needs
-
-number-requires : tie.Need-number-requires
-number-requires c κs = search needs
-
 returns : tie.Need-returns
 returns c =
     let told = ap toldCode (sym (c .enum-told .given .1)) ∙ c .before .before .code-of-light .ensures in
@@ -30,12 +18,4 @@ returns-2 c =
     rw (c .number .ensures) (ap (λ (o : Outcome ℕ). refusedWith o (c .before .before .before .before .before .args .number)) told)
 
 pub light-refused-spec : {M : Type 1} → statement M
-light-refused-spec =
-    tie.close
-    (tie.spec
-    code-of-light-requires
-    enum-told
-    enum-known-refusal
-    number-requires
-    returns
-    returns-2)
+light-refused-spec = tie.close (tie.spec (λ c κs. search needs) (λ c. search needs) (λ c. search needs) (λ c κs. search needs) returns returns-2)

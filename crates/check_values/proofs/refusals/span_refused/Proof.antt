@@ -7,18 +7,6 @@ use borrow.Author.Needs.{needs}
 use Rattle.check_values.proofs.refusals.span_refused.Statement.{statement}
 use Rattle.check_values.proofs.refusals.span_refused.Tie as tie
 
-span-of-code-requires : tie.Need-span-of-code-requires
-span-of-code-requires c κs = search needs
-
-enum-told : tie.Need-enum-told
-enum-told c = search needs
-
-enum-known-refusal : tie.Need-enum-known-refusal
-enum-known-refusal c = search needs
-
-number-requires : tie.Need-number-requires
-number-requires c κs = search needs
-
 returns : tie.Need-returns
 returns c =
     let told = ap toldSpan (sym (c .enum-told .given .1)) ∙ c .before .before .span-of-code .ensures in
@@ -30,6 +18,4 @@ returns-2 c =
     rw (c .number .ensures) (ap (λ (o : Outcome Span). refusedWith o (c .before .before .before .before .before .args .number)) told)
 
 pub span-refused-spec : {M : Type 1} → statement M
-span-refused-spec =
-    tie.close
-    (tie.spec span-of-code-requires enum-told enum-known-refusal number-requires returns returns-2)
+span-refused-spec = tie.close (tie.spec (λ c κs. search needs) (λ c. search needs) (λ c. search needs) (λ c κs. search needs) returns returns-2)

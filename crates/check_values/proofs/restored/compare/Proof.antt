@@ -19,30 +19,9 @@ loop-holds : tie.Need-loop-holds Inv-loop μ-loop
 unfolding restoredTo placeAt
 loop-holds c = (refl, refl, search needs)
 
-mul-u32-at : tie.Need-mul-u32-at Inv-loop μ-loop
-mul-u32-at c = search needs
-
-u32-at-requires : tie.Need-u32-at-requires Inv-loop μ-loop
-u32-at-requires c κs = search needs
-
-compare-code-requires : tie.Need-compare-code-requires Inv-loop μ-loop
-compare-code-requires c κs = search needs
-
-next-requires : tie.Need-next-requires Inv-loop μ-loop
-next-requires c κs = search needs
-
-add-i : tie.Need-add-i Inv-loop μ-loop
-add-i c = search needs
-
-loop-less : tie.Need-loop-less Inv-loop μ-loop
-loop-less c = search needs
-
 loop-again : tie.Need-loop-again Inv-loop μ-loop
 unfolding restoredTo placeAt
 loop-again c = (rw (add-one, c .before .compare-code .ensures, c .before .before .u32-at .ensures, c .before .before .before .before .loop .inv .0, c .before .before .before .before .loop .inv .1), rw (add-one, c .next .ensures, c .before .before .before .before .loop .inv .1), search needs)
-
-ended-requires : tie.Need-ended-requires Inv-loop μ-loop
-ended-requires c κs = search needs
 
 returns : tie.Need-returns Inv-loop μ-loop
 returns c =
@@ -53,16 +32,5 @@ returns c =
 pub compare-spec : {M : Type 1} → statement M
 compare-spec =
     tie.close
-    (tie.spec
-    Inv-loop
-    μ-loop
-    loop-holds
-    mul-u32-at
-    u32-at-requires
-    compare-code-requires
-    next-requires
-    add-i
-    loop-less
-    loop-again
-    ended-requires
-    returns)
+    (tie.spec Inv-loop μ-loop loop-holds (λ c. search needs) (λ c κs. search needs) (λ c κs. search needs) (λ c κs. search needs)
+    (λ c. search needs) (λ c. search needs) loop-again (λ c κs. search needs) returns)

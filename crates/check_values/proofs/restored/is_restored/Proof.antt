@@ -7,24 +7,6 @@ use borrow.Author.Needs.{needs}
 use Rattle.check_values.proofs.restored.is_restored.Statement.{statement}
 use Rattle.check_values.proofs.restored.is_restored.Tie as tie
 
-signals-of-codes-requires : tie.Need-signals-of-codes-requires
-signals-of-codes-requires c κs = search needs
-
-enum-known-s : tie.Need-enum-known-s
-enum-known-s c = search needs
-
-has-bits-requires : tie.Need-has-bits-requires
-has-bits-requires c κs = search needs
-
-has-bits-requires-2 : tie.Need-has-bits-requires-2
-has-bits-requires-2 c κs = search needs
-
-has-bits-requires-3 : tie.Need-has-bits-requires-3
-has-bits-requires-3 c κs = search needs
-
-enum-told : tie.Need-enum-told
-enum-told c = search needs
-
 returns : tie.Need-returns
 returns c =
     let told = ap restored (sym (c .before .before .before .before .s .given .1)) ∙ c .before .before .before .before .before .before .signals-of-codes .ensures in
@@ -38,12 +20,5 @@ returns-2 c =
 pub is-restored-spec : {M : Type 1} → statement M
 is-restored-spec =
     tie.close
-    (tie.spec
-    signals-of-codes-requires
-    enum-known-s
-    has-bits-requires
-    has-bits-requires-2
-    has-bits-requires-3
-    enum-told
-    returns
-    returns-2)
+    (tie.spec (λ c κs. search needs) (λ c. search needs) (λ c κs. search needs) (λ c κs. search needs) (λ c κs. search needs)
+    (λ c. search needs) returns returns-2)

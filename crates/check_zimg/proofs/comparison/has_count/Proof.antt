@@ -7,15 +7,6 @@ use borrow.Author.Needs.{needs}
 use Rattle.check_zimg.proofs.comparison.has_count.Statement.{statement}
 use Rattle.check_zimg.proofs.comparison.has_count.Tie as tie
 
-codes-of-words-requires : tie.Need-codes-of-words-requires
-codes-of-words-requires c κs = search needs
-
-enum-known-clipped : tie.Need-enum-known-clipped
-enum-known-clipped c = search needs
-
-enum-told : tie.Need-enum-told
-enum-told c = search needs
-
 returns : tie.Need-returns
 returns c =
     let told = ap toldCodes (sym (c .before .before .clipped .given .1)) ∙ c .before .before .before .before .codes-of-words .ensures in
@@ -27,5 +18,4 @@ returns-2 c =
     ap (λ (o : Outcome Clipped). countMet o (c .before .before .before .args .count)) told
 
 pub has-count-spec : {M : Type 1} → statement M
-has-count-spec =
-    tie.close (tie.spec codes-of-words-requires enum-known-clipped enum-told returns returns-2)
+has-count-spec = tie.close (tie.spec (λ c κs. search needs) (λ c. search needs) (λ c. search needs) returns returns-2)

@@ -7,36 +7,6 @@ use borrow.Author.Needs.{needs}
 use Rattle.check_zimg.proofs.comparison.with_codes.Statement.{statement}
 use Rattle.check_zimg.proofs.comparison.with_codes.Tie as tie
 
-codes-of-words-requires : tie.Need-codes-of-words-requires
-codes-of-words-requires c κs = search needs
-
-enum-known-clipped : tie.Need-enum-known-clipped
-enum-known-clipped c = search needs
-
-nominal-requires : tie.Need-nominal-requires
-nominal-requires c κs = search needs
-
-with-requires : tie.Need-with-requires
-with-requires c κs = search needs
-
-nominal-requires-2 : tie.Need-nominal-requires-2
-nominal-requires-2 c κs = search needs
-
-with-requires-2 : tie.Need-with-requires-2
-with-requires-2 c κs = search needs
-
-nominal-requires-3 : tie.Need-nominal-requires-3
-nominal-requires-3 c κs = search needs
-
-with-requires-3 : tie.Need-with-requires-3
-with-requires-3 c κs = search needs
-
-enum-told : tie.Need-enum-told
-enum-told c = search needs
-
-off-requires : tie.Need-off-requires
-off-requires c κs = search needs
-
 returns : tie.Need-returns
 returns c =
     let s = c .before .before .before .before .before .before .before .before .before .before .before .args in
@@ -53,16 +23,5 @@ returns-2 c =
 pub with-codes-spec : {M : Type 1} → statement M
 with-codes-spec =
     tie.close
-    (tie.spec
-    codes-of-words-requires
-    enum-known-clipped
-    nominal-requires
-    with-requires
-    nominal-requires-2
-    with-requires-2
-    nominal-requires-3
-    with-requires-3
-    enum-told
-    off-requires
-    returns
-    returns-2)
+    (tie.spec (λ c κs. search needs) (λ c. search needs) (λ c κs. search needs) (λ c κs. search needs) (λ c κs. search needs)
+    (λ c κs. search needs) (λ c κs. search needs) (λ c κs. search needs) (λ c. search needs) (λ c κs. search needs) returns returns-2)

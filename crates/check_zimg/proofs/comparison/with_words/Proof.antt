@@ -7,27 +7,6 @@ use borrow.Author.Needs.{needs}
 use Rattle.check_zimg.proofs.comparison.with_words.Statement.{statement}
 use Rattle.check_zimg.proofs.comparison.with_words.Tie as tie
 
-words-of-codes-requires : tie.Need-words-of-codes-requires
-words-of-codes-requires c κs = search needs
-
-enum-known-ours : tie.Need-enum-known-ours
-enum-known-ours c = search needs
-
-with-requires : tie.Need-with-requires
-with-requires c κs = search needs
-
-with-requires-2 : tie.Need-with-requires-2
-with-requires-2 c κs = search needs
-
-with-requires-3 : tie.Need-with-requires-3
-with-requires-3 c κs = search needs
-
-enum-told : tie.Need-enum-told
-enum-told c = search needs
-
-off-requires : tie.Need-off-requires
-off-requires c κs = search needs
-
 returns : tie.Need-returns
 returns c =
     let told = ap toldWords (sym (c .before .before .before .before .ours .given .1)) ∙ c .before .before .before .before .before .before .words-of-codes .ensures in
@@ -41,13 +20,5 @@ returns-2 c =
 pub with-words-spec : {M : Type 1} → statement M
 with-words-spec =
     tie.close
-    (tie.spec
-    words-of-codes-requires
-    enum-known-ours
-    with-requires
-    with-requires-2
-    with-requires-3
-    enum-told
-    off-requires
-    returns
-    returns-2)
+    (tie.spec (λ c κs. search needs) (λ c. search needs) (λ c κs. search needs) (λ c κs. search needs) (λ c κs. search needs)
+    (λ c. search needs) (λ c κs. search needs) returns returns-2)

@@ -7,18 +7,6 @@ use Rattle.ferghulta.specs.Answers.{codeAnswer}
 use Rattle.ferghulta.proofs.calls.ferghulta_code_of_light.Statement.{statement}
 use Rattle.ferghulta.proofs.calls.ferghulta_code_of_light.Tie as tie
 
-code-of-light-requires : tie.Need-code-of-light-requires
-code-of-light-requires c κs = search needs
-
-enum-known-code : tie.Need-enum-known-code
-enum-known-code c = search needs
-
-enum-known-r : tie.Need-enum-known-r
-enum-known-r c = search needs
-
-number-requires : tie.Need-number-requires
-number-requires c κs = search needs
-
 returns : tie.Need-returns
 returns c = ap codeAnswer (sym (ap toldCode (c .before .code .given .1)) ∙ c .before .before .before .code-of-light .ensures)
 
@@ -27,11 +15,4 @@ returns-2 c = ap (λ (n : ℕ). codeAnswer (refused n)) (c .number .ensures) ∙
 
 pub ferghulta-code-of-light-spec : {M : Type 1} → statement M
 ferghulta-code-of-light-spec =
-    tie.close
-    (tie.spec
-    code-of-light-requires
-    enum-known-code
-    enum-known-r
-    number-requires
-    returns
-    returns-2)
+    tie.close (tie.spec (λ c κs. search needs) (λ c. search needs) (λ c. search needs) (λ c κs. search needs) returns returns-2)

@@ -8,18 +8,6 @@ use Rattle.ferghulta.specs.Answers.{signalsAnswer}
 use Rattle.ferghulta.proofs.calls.ferghulta_signals_of_codes.Statement.{statement}
 use Rattle.ferghulta.proofs.calls.ferghulta_signals_of_codes.Tie as tie
 
-signals-of-codes-requires : tie.Need-signals-of-codes-requires
-signals-of-codes-requires c κs = search needs
-
-enum-known-signals : tie.Need-enum-known-signals
-enum-known-signals c = search needs
-
-enum-known-r : tie.Need-enum-known-r
-enum-known-r c = search needs
-
-number-requires : tie.Need-number-requires
-number-requires c κs = search needs
-
 returns : tie.Need-returns
 returns c = ap signalsAnswer (sym (ap restored (c .before .signals .given .1)) ∙ c .before .before .before .signals-of-codes .ensures)
 
@@ -29,11 +17,4 @@ returns-2 c = ap (λ (n : ℕ). signalsAnswer (refused n)) (c .number .ensures) 
 
 pub ferghulta-signals-of-codes-spec : {M : Type 1} → statement M
 ferghulta-signals-of-codes-spec =
-    tie.close
-    (tie.spec
-    signals-of-codes-requires
-    enum-known-signals
-    enum-known-r
-    number-requires
-    returns
-    returns-2)
+    tie.close (tie.spec (λ c κs. search needs) (λ c. search needs) (λ c. search needs) (λ c κs. search needs) returns returns-2)

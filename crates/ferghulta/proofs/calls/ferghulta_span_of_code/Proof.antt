@@ -7,18 +7,6 @@ use Rattle.ferghulta.specs.Answers.{spanAnswer}
 use Rattle.ferghulta.proofs.calls.ferghulta_span_of_code.Statement.{statement}
 use Rattle.ferghulta.proofs.calls.ferghulta_span_of_code.Tie as tie
 
-span-of-code-requires : tie.Need-span-of-code-requires
-span-of-code-requires c κs = search needs
-
-enum-known-span : tie.Need-enum-known-span
-enum-known-span c = search needs
-
-enum-known-r : tie.Need-enum-known-r
-enum-known-r c = search needs
-
-number-requires : tie.Need-number-requires
-number-requires c κs = search needs
-
 returns : tie.Need-returns
 returns c = ap spanAnswer (sym (ap toldSpan (c .before .span .given .1)) ∙ c .before .before .before .span-of-code .ensures)
 
@@ -27,5 +15,4 @@ returns-2 c = ap (λ (n : ℕ). spanAnswer (refused n)) (c .number .ensures) ∙
 
 pub ferghulta-span-of-code-spec : {M : Type 1} → statement M
 ferghulta-span-of-code-spec =
-    tie.close
-    (tie.spec span-of-code-requires enum-known-span enum-known-r number-requires returns returns-2)
+    tie.close (tie.spec (λ c κs. search needs) (λ c. search needs) (λ c. search needs) (λ c κs. search needs) returns returns-2)

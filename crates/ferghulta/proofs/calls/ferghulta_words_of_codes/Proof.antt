@@ -7,18 +7,6 @@ use Rattle.ferghulta.specs.Answers.{wordsAnswer}
 use Rattle.ferghulta.proofs.calls.ferghulta_words_of_codes.Statement.{statement}
 use Rattle.ferghulta.proofs.calls.ferghulta_words_of_codes.Tie as tie
 
-words-of-codes-requires : tie.Need-words-of-codes-requires
-words-of-codes-requires c κs = search needs
-
-enum-known-words : tie.Need-enum-known-words
-enum-known-words c = search needs
-
-enum-known-r : tie.Need-enum-known-r
-enum-known-r c = search needs
-
-number-requires : tie.Need-number-requires
-number-requires c κs = search needs
-
 returns : tie.Need-returns
 returns c = ap wordsAnswer (sym (ap toldWords (c .before .words .given .1)) ∙ c .before .before .before .words-of-codes .ensures)
 
@@ -27,11 +15,4 @@ returns-2 c = ap (λ (n : ℕ). wordsAnswer (refused n)) (c .number .ensures) �
 
 pub ferghulta-words-of-codes-spec : {M : Type 1} → statement M
 ferghulta-words-of-codes-spec =
-    tie.close
-    (tie.spec
-    words-of-codes-requires
-    enum-known-words
-    enum-known-r
-    number-requires
-    returns
-    returns-2)
+    tie.close (tie.spec (λ c κs. search needs) (λ c. search needs) (λ c. search needs) (λ c κs. search needs) returns returns-2)

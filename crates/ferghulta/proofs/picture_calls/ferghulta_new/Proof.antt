@@ -4,14 +4,8 @@ use borrow.Author.Needs.{needs}
 use Rattle.ferghulta.proofs.picture_calls.ferghulta_new.Statement.{statement}
 use Rattle.ferghulta.proofs.picture_calls.ferghulta_new.Tie as tie
 
-new-requires : tie.Need-new-requires
-new-requires c κs = search needs
-
-stored-requires : tie.Need-stored-requires
-stored-requires c κs = search needs
-
 returns : tie.Need-returns
 returns c = c .stored .ensures ∙ ap stored (c .before .new .ensures)
 
 pub ferghulta-new-spec : {M : Type 1} → statement M
-ferghulta-new-spec = tie.close (tie.spec new-requires stored-requires returns)
+ferghulta-new-spec = tie.close (tie.spec (λ c κs. search needs) (λ c κs. search needs) returns)

@@ -6,20 +6,10 @@ use borrow.Author.Needs.{needs}
 use Rattle.ferghulta.proofs.picture_calls.ferghulta_open.Statement.{statement}
 use Rattle.ferghulta.proofs.picture_calls.ferghulta_open.Tie as tie
 
-picture-of-requires : tie.Need-picture-of-requires
-picture-of-requires c κs = search needs
-
-open-requires : tie.Need-open-requires
-open-requires c κs = search needs
-
-answer-requires : tie.Need-answer-requires
-answer-requires c κs = search needs
-
 returns : tie.Need-returns
 returns c =
     let a = c .before .before .before .args in
     c .answer .ensures ∙ ap (pictureAnswer (a .picture)) (c .before .open .ensures ∙ ap (λ (p : Picture). opening p (a .system) (a .width) (a .height)) (c .before .before .picture-of .ensures))
 
 pub ferghulta-open-spec : {M : Type 1} → statement M
-ferghulta-open-spec =
-    tie.close (tie.spec picture-of-requires open-requires answer-requires returns)
+ferghulta-open-spec = tie.close (tie.spec (λ c κs. search needs) (λ c κs. search needs) (λ c κs. search needs) returns)

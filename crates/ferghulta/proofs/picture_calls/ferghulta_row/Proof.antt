@@ -8,18 +8,6 @@ use borrow.Author.Needs.{needs}
 use Rattle.ferghulta.proofs.picture_calls.ferghulta_row.Statement.{statement}
 use Rattle.ferghulta.proofs.picture_calls.ferghulta_row.Tie as tie
 
-picture-of-requires : tie.Need-picture-of-requires
-picture-of-requires c κs = search needs
-
-row-requires : tie.Need-row-requires
-row-requires c κs = search needs
-
-answer-requires : tie.Need-answer-requires
-answer-requires c κs = search needs
-
-same-length : tie.Need-same-length
-same-length c = search needs
-
 returns : tie.Need-returns
 returns c =
     let made = c .before .before .before in
@@ -31,5 +19,4 @@ returns c =
     )
 
 pub ferghulta-row-spec : {M : Type 1} → statement M
-ferghulta-row-spec =
-    tie.close (tie.spec picture-of-requires row-requires answer-requires same-length returns)
+ferghulta-row-spec = tie.close (tie.spec (λ c κs. search needs) (λ c κs. search needs) (λ c κs. search needs) (λ c. search needs) returns)

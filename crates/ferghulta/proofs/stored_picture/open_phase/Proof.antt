@@ -5,18 +5,6 @@ use borrow.Author.Needs.{needs}
 use Rattle.ferghulta.proofs.stored_picture.open_phase.Statement.{statement}
 use Rattle.ferghulta.proofs.stored_picture.open_phase.Tie as tie
 
-cast-from-number : tie.Need-cast-from-number
-cast-from-number c = search needs
-
-from-number-requires : tie.Need-from-number-requires
-from-number-requires c κs = search needs
-
-enum-known-system : tie.Need-enum-known-system
-enum-known-system c = search needs
-
-enum-told : tie.Need-enum-told
-enum-told c = search needs
-
 returns : tie.Need-returns
 returns c = ap (openIn (c .before .before .before .before .before .args .k)) (sym (ap found (c .before .system .given .1)) ∙ c .before .before .before .from-number .ensures)
 
@@ -24,6 +12,4 @@ returns-2 : tie.Need-returns-2
 returns-2 c = ap (openIn (c .before .before .before .before .args .k)) (sym (ap found (c .enum-told .given .1)) ∙ c .before .before .from-number .ensures)
 
 pub open-phase-spec : {M : Type 1} → statement M
-open-phase-spec =
-    tie.close
-    (tie.spec cast-from-number from-number-requires enum-known-system enum-told returns returns-2)
+open-phase-spec = tie.close (tie.spec (λ c. search needs) (λ c κs. search needs) (λ c. search needs) (λ c. search needs) returns returns-2)

@@ -3,18 +3,6 @@ use borrow.Author.Needs.{needs}
 use Rattle.ferghulta.proofs.stored_picture.picture_of.Statement.{statement}
 use Rattle.ferghulta.proofs.stored_picture.picture_of.Tie as tie
 
-open-phase-requires : tie.Need-open-phase-requires
-open-phase-requires c κs = search needs
-
-resume-requires : tie.Need-resume-requires
-resume-requires c κs = search needs
-
-resume-requires-2 : tie.Need-resume-requires-2
-resume-requires-2 c κs = search needs
-
-new-requires : tie.Need-new-requires
-new-requires c κs = search needs
-
 returns : tie.Need-returns
 returns c = simp (c .before .before .match .keys1, c .before .open-phase .ensures, c .resume .ensures)
 
@@ -28,12 +16,4 @@ returns-3 c =
 
 pub picture-of-spec : {M : Type 1} → statement M
 picture-of-spec =
-    tie.close
-    (tie.spec
-    open-phase-requires
-    resume-requires
-    resume-requires-2
-    new-requires
-    returns
-    returns-2
-    returns-3)
+    tie.close (tie.spec (λ c κs. search needs) (λ c κs. search needs) (λ c κs. search needs) (λ c κs. search needs) returns returns-2 returns-3)

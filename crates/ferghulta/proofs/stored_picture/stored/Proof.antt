@@ -4,27 +4,6 @@ use borrow.Author.Needs.{needs}
 use Rattle.ferghulta.proofs.stored_picture.stored.Statement.{statement}
 use Rattle.ferghulta.proofs.stored_picture.stored.Tie as tie
 
-phase-requires : tie.Need-phase-requires
-phase-requires c κs = search needs
-
-enum-told : tie.Need-enum-told
-enum-told c = search needs
-
-unopened-requires : tie.Need-unopened-requires
-unopened-requires c κs = search needs
-
-enum-known-o : tie.Need-enum-known-o
-enum-known-o c = search needs
-
-stored-open-requires : tie.Need-stored-open-requires
-stored-open-requires c κs = search needs
-
-enum-told-2 : tie.Need-enum-told-2
-enum-told-2 c = search needs
-
-unopened-requires-2 : tie.Need-unopened-requires-2
-unopened-requires-2 c κs = search needs
-
 returns : tie.Need-returns
 returns c = c .unopened .ensures ∙ ap storedAt (sym (c .before .enum-told .given .1) ∙ c .before .before .before .phase .ensures)
 
@@ -37,14 +16,5 @@ returns-3 c = c .unopened2 .ensures ∙ ap storedAt (sym (c .before .enum-told2 
 pub stored-spec : {M : Type 1} → statement M
 stored-spec =
     tie.close
-    (tie.spec
-    phase-requires
-    enum-told
-    unopened-requires
-    enum-known-o
-    stored-open-requires
-    enum-told-2
-    unopened-requires-2
-    returns
-    returns-2
-    returns-3)
+    (tie.spec (λ c κs. search needs) (λ c. search needs) (λ c κs. search needs) (λ c. search needs) (λ c κs. search needs) (λ c. search needs)
+    (λ c κs. search needs) returns returns-2 returns-3)

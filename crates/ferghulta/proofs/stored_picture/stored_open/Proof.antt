@@ -4,9 +4,6 @@ use Rattle.systems.proofs.Scales.{number-small}
 use Rattle.ferghulta.proofs.stored_picture.stored_open.Statement.{statement}
 use Rattle.ferghulta.proofs.stored_picture.stored_open.Tie as tie
 
-number-requires : tie.Need-number-requires
-number-requires c κs = search needs
-
 cast-t4 : tie.Need-cast-t4
 cast-t4 c = omega (arith, c .number .ensures, number-small (c .before .args .o .system))
 
@@ -14,4 +11,4 @@ returns : tie.Need-returns
 returns c = rw (c .number .ensures)
 
 pub stored-open-spec : {M : Type 1} → statement M
-stored-open-spec = tie.close (tie.spec number-requires cast-t4 returns)
+stored-open-spec = tie.close (tie.spec (λ c κs. search needs) cast-t4 returns)

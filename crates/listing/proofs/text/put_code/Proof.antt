@@ -13,9 +13,6 @@ put-byte-requires c κs =
     let p = c .before .before .before .put-decimal .ensures in
     omega (arith, c .before .before .before .before .before .before .pre, p .place, put-length p, code-digits (c .before .before .before .before .before .before .args .code) (omega arith))
 
-same-length : tie.Need-same-length
-same-length c = search needs
-
 returns : tie.Need-returns
 returns c =
     let p = c .before .before .before .before .before .before .put-decimal .ensures in
@@ -23,4 +20,4 @@ returns c =
     (puts p q, omega (arith, p .place, q .place, code-digits (c .before .before .before .before .before .before .before .before .before .args .code) (omega arith)))
 
 pub put-code-spec : {M : Type 1} → statement M
-put-code-spec = tie.close (tie.spec put-decimal-requires put-byte-requires same-length returns)
+put-code-spec = tie.close (tie.spec put-decimal-requires put-byte-requires (λ c. search needs) returns)

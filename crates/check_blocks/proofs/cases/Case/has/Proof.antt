@@ -6,18 +6,6 @@ use borrow.Author.Needs.{needs}
 use Rattle.check_blocks.proofs.cases.Case.has.Statement.{statement}
 use Rattle.check_blocks.proofs.cases.Case.has.Tie as tie
 
-enum-known-answer : tie.Need-enum-known-answer
-enum-known-answer c = search needs
-
-is-requires : tie.Need-is-requires
-is-requires c κs = search needs
-
-enum-known-answer-2 : tie.Need-enum-known-answer-2
-enum-known-answer-2 c = search needs
-
-number-requires : tie.Need-number-requires
-number-requires c κs = search needs
-
 returns : tie.Need-returns
 returns c = rw (c .is .ensures) (ap (λ (a : BlockRead). agrees (toldHeader a) (c .before .before .before .before .before .args .self)) (sym (c .before .before .before .answer .given .1)))
 
@@ -25,6 +13,4 @@ returns-2 : tie.Need-returns-2
 returns-2 c = rw (c .before .number .ensures) (ap (λ (a : BlockRead). agrees (toldHeader a) (c .before .before .before .before .before .args .self)) (sym (c .before .before .before .answer2 .given .1)))
 
 pub has-spec : {M : Type 1} → statement M
-has-spec =
-    tie.close
-    (tie.spec enum-known-answer is-requires enum-known-answer-2 number-requires returns returns-2)
+has-spec = tie.close (tie.spec (λ c. search needs) (λ c κs. search needs) (λ c. search needs) (λ c κs. search needs) returns returns-2)

@@ -2,11 +2,8 @@ use borrow.Author.Needs.{needs}
 use Rattle.check_blocks.proofs.cases.Case.is.Statement.{statement}
 use Rattle.check_blocks.proofs.cases.Case.is.Tie as tie
 
-number-requires : tie.Need-number-requires
-number-requires c κs = search needs
-
 returns : tie.Need-returns
 returns c = rw (c .before .before .before .before .before .before .before .number .ensures)
 
 pub is-spec : {M : Type 1} → statement M
-is-spec = tie.close (tie.spec number-requires returns)
+is-spec = tie.close (tie.spec (λ c κs. search needs) returns)

@@ -3,23 +3,8 @@ use borrow.Author.Needs.{needs}
 use Rattle.check_pictures.proofs.call.Call.answer.Statement.{statement}
 use Rattle.check_pictures.proofs.call.Call.answer.Tie as tie
 
-open-requires : tie.Need-open-requires
-open-requires c κs = search needs
-
-row-requires : tie.Need-row-requires
-row-requires c κs = search needs
-
-close-requires : tie.Need-close-requires
-close-requires c κs = search needs
-
-new-requires : tie.Need-new-requires
-new-requires c κs = search needs
-
 returns : tie.Need-returns
 returns c = (simp (c .before .match .keys1) (c .«open» .ensures), simp (c .before .match .keys1))
-
-same-length : tie.Need-same-length
-same-length c = search needs
 
 returns-2 : tie.Need-returns-2
 returns-2 c =
@@ -41,13 +26,5 @@ returns-4 c =
 pub answer-spec : {M : Type 1} → statement M
 answer-spec =
     tie.close
-    (tie.spec
-    open-requires
-    row-requires
-    close-requires
-    new-requires
-    returns
-    same-length
-    returns-2
-    returns-3
-    returns-4)
+    (tie.spec (λ c κs. search needs) (λ c κs. search needs) (λ c κs. search needs) (λ c κs. search needs) returns (λ c. search needs) returns-2
+    returns-3 returns-4)

@@ -6,15 +6,6 @@ use borrow.Author.Needs.{needs}
 use Rattle.check_pictures.proofs.call.Call.is_read.Statement.{statement}
 use Rattle.check_pictures.proofs.call.Call.is_read.Tie as tie
 
-enum-known-answer : tie.Need-enum-known-answer
-enum-known-answer c = search needs
-
-is-requires : tie.Need-is-requires
-is-requires c κs = search needs
-
-enum-told : tie.Need-enum-told
-enum-told c = search needs
-
 returns : tie.Need-returns
 returns c = c .is .ensures ∙ ap (λ (a : BlockRead). readAs (toldHeader a) (c .before .before .before .before .args .self)) (sym (c .before .before .answer .given .1))
 
@@ -22,4 +13,4 @@ returns-2 : tie.Need-returns-2
 returns-2 c = ap (λ (a : BlockRead). readAs (toldHeader a) (c .before .before .args .self)) (sym (c .enum-told .given .1))
 
 pub is-read-spec : {M : Type 1} → statement M
-is-read-spec = tie.close (tie.spec enum-known-answer is-requires enum-told returns returns-2)
+is-read-spec = tie.close (tie.spec (λ c. search needs) (λ c κs. search needs) (λ c. search needs) returns returns-2)

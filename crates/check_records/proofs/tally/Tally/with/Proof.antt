@@ -3,12 +3,6 @@ use Rattle.check_records.specs.Records.{tallied}
 use Rattle.check_records.proofs.tally.Tally.with.Statement.{statement}
 use Rattle.check_records.proofs.tally.Tally.with.Tie as tie
 
-more-requires : tie.Need-more-requires
-more-requires c κs = search needs
-
-more-requires-2 : tie.Need-more-requires-2
-more-requires-2 c κs = search needs
-
 returns : tie.Need-returns
 unfolding tallied
 returns c = simp (c .before .before .more .ensures, c .if1 .taken)
@@ -18,4 +12,4 @@ unfolding tallied
 returns-2 c = simp (c .before .before .more .ensures, c .before .more2 .ensures, c .if1 .left)
 
 pub with-spec : {M : Type 1} → statement M
-with-spec = tie.close (tie.spec more-requires more-requires-2 returns returns-2)
+with-spec = tie.close (tie.spec (λ c κs. search needs) (λ c κs. search needs) returns returns-2)

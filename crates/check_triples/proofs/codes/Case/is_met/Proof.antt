@@ -7,21 +7,6 @@ use borrow.Author.Needs.{needs}
 use Rattle.check_triples.proofs.codes.Case.is_met.Statement.{statement}
 use Rattle.check_triples.proofs.codes.Case.is_met.Tie as tie
 
-codes-of-words-requires : tie.Need-codes-of-words-requires
-codes-of-words-requires c κs = search needs
-
-enum-known-found : tie.Need-enum-known-found
-enum-known-found c = search needs
-
-codes-requires : tie.Need-codes-requires
-codes-requires c κs = search needs
-
-enum-known-refusal : tie.Need-enum-known-refusal
-enum-known-refusal c = search needs
-
-number-requires : tie.Need-number-requires
-number-requires c κs = search needs
-
 returns : tie.Need-returns
 returns c =
     let told = ap toldCodes (sym (c .before .before .before .before .before .found .given .1)) ∙ c .before .before .before .before .before .before .before .codes-of-words .ensures in
@@ -35,11 +20,4 @@ returns-2 c =
 pub is-met-spec : {M : Type 1} → statement M
 is-met-spec =
     tie.close
-    (tie.spec
-    codes-of-words-requires
-    enum-known-found
-    codes-requires
-    enum-known-refusal
-    number-requires
-    returns
-    returns-2)
+    (tie.spec (λ c κs. search needs) (λ c. search needs) (λ c κs. search needs) (λ c. search needs) (λ c κs. search needs) returns returns-2)

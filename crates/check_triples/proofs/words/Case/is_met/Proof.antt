@@ -7,21 +7,6 @@ use borrow.Author.Needs.{needs}
 use Rattle.check_triples.proofs.words.Case.is_met.Statement.{statement}
 use Rattle.check_triples.proofs.words.Case.is_met.Tie as tie
 
-words-of-codes-requires : tie.Need-words-of-codes-requires
-words-of-codes-requires c κs = search needs
-
-enum-known-w : tie.Need-enum-known-w
-enum-known-w c = search needs
-
-words-requires : tie.Need-words-requires
-words-requires c κs = search needs
-
-enum-known-refusal : tie.Need-enum-known-refusal
-enum-known-refusal c = search needs
-
-number-requires : tie.Need-number-requires
-number-requires c κs = search needs
-
 returns : tie.Need-returns
 returns c =
     let told = ap toldWords (sym (c .before .before .before .w .given .1)) ∙ c .before .before .before .before .before .words-of-codes .ensures in
@@ -35,11 +20,4 @@ returns-2 c =
 pub is-met-spec : {M : Type 1} → statement M
 is-met-spec =
     tie.close
-    (tie.spec
-    words-of-codes-requires
-    enum-known-w
-    words-requires
-    enum-known-refusal
-    number-requires
-    returns
-    returns-2)
+    (tie.spec (λ c κs. search needs) (λ c. search needs) (λ c κs. search needs) (λ c. search needs) (λ c κs. search needs) returns returns-2)

@@ -8,18 +8,9 @@ returns : tie.Need-returns
 unfolding ended
 returns c = simp (eq-eqb _ _ (c .if1 .taken))
 
-off-requires : tie.Need-off-requires
-off-requires c κs = search needs
-
-off-requires-2 : tie.Need-off-requires-2
-off-requires-2 c κs = search needs
-
-with-requires : tie.Need-with-requires
-with-requires c κs = search needs
-
 returns-2 : tie.Need-returns-2
 unfolding ended
 returns-2 c = simp (ne-eqb _ _ (c .before .before .before .if1 .left), c .before .before .off .ensures, c .before .off2 .ensures, c .with .ensures)
 
 pub ended-spec : {M : Type 1} → statement M
-ended-spec = tie.close (tie.spec returns off-requires off-requires-2 with-requires returns-2)
+ended-spec = tie.close (tie.spec returns (λ c κs. search needs) (λ c κs. search needs) (λ c κs. search needs) returns-2)

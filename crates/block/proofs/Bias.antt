@@ -17,7 +17,7 @@ use Rattle.systems.specs.declared.Matrix.{Matrix}
 use Rattle.systems.specs.declared.Range.{Range}
 use Rattle.matrix.specs.declared.Clipped.{Clipped}
 use Rattle.matrix.specs.declared.Words.{Words}
-use Rattle.matrix.specs.Triples.{whole, clipped, beyond, codesAt}
+use Rattle.matrix.specs.Triples.{natural, clipped, beyond, codesAt}
 use Rattle.matrix.specs.Inner.{TwelveBitWords, unclippedAt}
 use Rattle.matrix.proofs.Clipping.{clipped-by, counted}
 use Rattle.matrix.proofs.DecodingRows.{unclipped-small}
@@ -31,7 +31,7 @@ unbiased-biased : (z : ℤ) → natAbs z ≤ 2 ^ 14 → unbiased (biased z) ≡ 
 unbiased-biased (pos a) h = sub-eq (a + 16384) 16384 a 0 (omega arith) ∙ sym (pos-sub a)
 unbiased-biased (negsuc a) h =
     let q : 16384 - suc (16384 - suc a) ≡ a = omega arith in
-    ap (λ (z : ℤ). unbiased (whole z)) (sub-pos 16384 (suc a) (omega arith)) ∙ sub-neg (16384 - suc a) 16384 (omega arith) ∙ ap negsuc q
+    ap (λ (z : ℤ). unbiased (natural z)) (sub-pos 16384 (suc a) (omega arith)) ∙ sub-neg (16384 - suc a) 16384 (omega arith) ∙ ap negsuc q
 
 -- ---- the tests of a biased component
 low-test : (v low : ℕ) → ltZ (unbiased v) (pos low) ≡ ltb v (low + 16384)
@@ -55,7 +55,7 @@ high-test v high = go (below-or-not v 16384) (below-or-not (high + 16384) v)
 -- ---- clipped and counted by those tests
 module _ (n : Range) (v : ℕ) where
   code : (l h : Bool) → ltb v (n .low + 16384) ≡ l → ltb (n .high + 16384) v ≡ h
-      → elim l [ true ↦ n .low | false ↦ elim h [ true ↦ n .high | false ↦ whole (unbiased v) ] ] ≡ clipped n (unbiased v)
+      → elim l [ true ↦ n .low | false ↦ elim h [ true ↦ n .high | false ↦ natural (unbiased v) ] ] ≡ clipped n (unbiased v)
   code l h p q = clipped-by n (unbiased v) l h (low-test v (n .low) ∙ p) (high-test v (n .high) ∙ q)
 
   -- held between the biased ends and taken down again
@@ -75,7 +75,7 @@ module _ (n : Range) (v : ℕ) where
           subst (λ (b : Bool). Held (oneOf b (n .high + 16384) v)) (sym q) (omega arith, high ∙ code false true p q)
       go false false p q =
           let above = ltb-false v (n .low + 16384) p in
-          subst (λ (b : Bool). Held (oneOf b (n .high + 16384) v)) (sym q) (omega arith, ap whole (sym (sub-pos v 16384 (omega arith))) ∙ code false false p q)
+          subst (λ (b : Bool). Held (oneOf b (n .high + 16384) v)) (sym q) (omega arith, ap natural (sym (sub-pos v 16384 (omega arith))) ∙ code false false p q)
 
   pub beyond-biased : Clippable n →
       let k = boolByte (ltb v (n .low + 16384)) + boolByte (ltb (n .high + 16384) v) in

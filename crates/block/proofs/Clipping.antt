@@ -14,10 +14,10 @@ use Rattle.matrix.specs.declared.Words.{Words}
 use Rattle.matrix.specs.Triples.{clipped, beyond}
 use Rattle.matrix.specs.Inner.{NominalWords, unclippedAt}
 use Rattle.matrix.proofs.Tested.{twelve-bits}
-use Rattle.block.specs.Read.{decoded, listed, codesTo, clippedTo}
-use Rattle.block.specs.Inner.{unbiased, biasedTriple, biasedRow, listedTo, clippedAll, beyondAll}
+use Rattle.block.specs.Read.{decoded, rgb, codesTo, clippedTo}
+use Rattle.block.specs.Inner.{unbiased, biasedTriple, biasedRow, triplesTo, clippedAll, beyondAll}
 use Rattle.block.proofs.Bias.{codes-from-biased}
-use Rattle.block.proofs.Decoding.{length-listed}
+use Rattle.block.proofs.Decoding.{length-triples}
 
 module _ (r : Range) where
   clipped-append : (a b : List ℕ) → clippedAll r (a ++ b) ≡ clippedAll r a ++ clippedAll r b
@@ -91,24 +91,24 @@ module _ (x : Matrix) (s : ℕ) (row : ℕ → Words) (S : s ≤ 16) where
   range = record { low = 16 * s; high = 235 * s }
 
   row-clipped : (n : ℕ) → ((i : ℕ) → i < n → NominalWords s (row i))
-      → (clippedAll range (listedTo (biasedRow x s row) n) ≡ codesTo (decoded x s row) n) × (beyondAll range (listedTo (biasedRow x s row) n) ≡ clippedTo (decoded x s row) n)
-  unfolding listedTo codesTo clippedTo clippedAll beyondAll
+      → (clippedAll range (triplesTo (biasedRow x s row) n) ≡ codesTo (decoded x s row) n) × (beyondAll range (triplesTo (biasedRow x s row) n) ≡ clippedTo (decoded x s row) n)
+  unfolding triplesTo codesTo clippedTo clippedAll beyondAll
   row-clipped zero h = (refl, refl)
   row-clipped (suc n) h =
       let before = row-clipped n (λ i l. h i (omega arith)) in
       let here = codes-from-biased x s (row n) S (twelve-bits s (row n) S (h n (omega arith))) in
-      let v = listed (biasedTriple (unclippedAt x s (row n))) in
-      let b = beyond-append range (listedTo (biasedRow x s row) n) v in
+      let v = rgb (biasedTriple (unclippedAt x s (row n))) in
+      let b = beyond-append range (triplesTo (biasedRow x s row) n) v in
       let k : beyondAll range v ≡ decoded x s row n .count = omega (arith, ap (λ (t : Clipped). t .count) here) in
-      (clipped-append range (listedTo (biasedRow x s row) n) v ∙ (λ j. before .0 j ++ listed (here j .codes)), b ∙ (λ j. before .1 j + k j))
+      (clipped-append range (triplesTo (biasedRow x s row) n) v ∙ (λ j. before .0 j ++ rgb (here j .codes)), b ∙ (λ j. before .1 j + k j))
 
   -- biased, then clipped
-  pub clipped-row : (n : ℕ) (slice mid : List ℕ) → ((i : ℕ) → i < n → NominalWords s (row i)) → mid ≡ listedTo (biasedRow x s row) n ++ drop (3 * n) slice
+  pub clipped-row : (n : ℕ) (slice mid : List ℕ) → ((i : ℕ) → i < n → NominalWords s (row i)) → mid ≡ triplesTo (biasedRow x s row) n ++ drop (3 * n) slice
       → (beyondAll range (take (3 * n) mid) ≡ clippedTo (decoded x s row) n)
       × (clippedAll range (take (3 * n) mid) ++ drop (3 * n) mid ≡ codesTo (decoded x s row) n ++ drop (3 * n) slice)
   clipped-row n slice mid h e =
-      let front = listedTo (biasedRow x s row) n in
+      let front = triplesTo (biasedRow x s row) n in
       let rest = drop (3 * n) slice in
-      let l = length-listed (biasedRow x s row) n in
+      let l = length-triples (biasedRow x s row) n in
       let done = row-clipped n h in
       rw (e, take-at front rest (3 * n) l, drop-at front rest (3 * n) l) (done .1, ap (λ (t : List ℕ). t ++ rest) (done .0))

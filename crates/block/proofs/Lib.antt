@@ -6,4 +6,4 @@ pub mod Clipping
 pub mod Reading
 pub mod Bytes
 pub mod ReadBack
-pub mod Tellable
+pub mod Answerable

@@ -16,7 +16,7 @@ use Rattle.matrix.specs.declared.Clipped.{Clipped}
 use Rattle.matrix.specs.Triples.{codesAt, wordsWithin}
 use Rattle.matrix.proofs.Tested.{nominal-words}
 use Rattle.block.specs.Block.{block, sampleOf}
-use Rattle.block.specs.Read.{fieldAt, sectionAt, widthOk, sections, walk, sampleAt, nominalTo, decoded, listed, codesTo, clippedTo, rowOf, headerOf, sliceAfter}
+use Rattle.block.specs.Read.{fieldAt, sectionAt, widthOk, sections, walk, sampleAt, nominalTo, decoded, rgb, codesTo, clippedTo, rowOf, headerOf, sliceAfter}
 use Rattle.block.proofs.Bytes.{Fields, block-fields}
 use Rattle.block.proofs.Nominal.{nominal-if}
 use Rattle.block.proofs.Reading.{row-accepted, codes-in-front}
@@ -26,7 +26,7 @@ module _ (f g : ℕ → Clipped) where
   pub codes-agree : (n : ℕ) → ((i : ℕ) → i < n → f i ≡ g i) → codesTo f n ≡ codesTo g n
   unfolding codesTo
   codes-agree zero h = refl
-  codes-agree (suc n) h = λ k. codes-agree n (λ i l. h i (omega arith)) k ++ listed (h n (omega arith) k .codes)
+  codes-agree (suc n) h = λ k. codes-agree n (λ i l. h i (omega arith)) k ++ rgb (h n (omega arith) k .codes)
 
   pub clipped-agree : (n : ℕ) → ((i : ℕ) → i < n → f i ≡ g i) → clippedTo f n ≡ clippedTo g n
   unfolding clippedTo

@@ -17,7 +17,7 @@ use Rattle.systems.specs.Systems.{named, within}
 use Rattle.block.specs.declared.Counted.{Counted}
 use Rattle.block.specs.declared.Walked.{Walked}
 use Rattle.block.specs.Read.{fieldAt, sectionAt, widthOk, sections, walk}
-use Rattle.block.specs.Inner.{toldCount}
+use Rattle.block.specs.Inner.{countOutcome}
 use Rattle.block.proofs.Nominal.{each}
 
 -- the range of one count
@@ -37,7 +37,7 @@ section-of-one-count : (bs : List ℕ) (i w : ℕ) → sectionAt bs i (within (o
 section-of-one-count bs i w = rw (one-count w (fieldAt bs i))
 
 -- what the section of a count that is known says
-pub section-said : (bs : List ℕ) (i w : ℕ) (r : Counted) → toldCount r ≡ sectionAt bs i (within (only w)) → sectionAt bs i (eqb w) ≡ toldCount r
+pub section-said : (bs : List ℕ) (i w : ℕ) (r : Counted) → countOutcome r ≡ sectionAt bs i (within (only w)) → sectionAt bs i (eqb w) ≡ countOutcome r
 section-said bs i w r e = sym (e ∙ section-of-one-count bs i w)
 
 -- an outcome that was required and is accepted

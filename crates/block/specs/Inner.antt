@@ -14,23 +14,23 @@ use Rattle.systems.specs.Systems.{within}
 use Rattle.systems.specs.Refusals.{refusal}
 use Rattle.matrix.specs.declared.Words.{Words}
 use Rattle.matrix.specs.declared.Unclipped.{Unclipped}
-use Rattle.matrix.specs.Triples.{whole, clipped, beyond}
+use Rattle.matrix.specs.Triples.{natural, clipped, beyond}
 use Rattle.matrix.specs.Inner.{NominalWords, unclippedAt}
 use Rattle.block.specs.declared.Walked.{Walked}
 use Rattle.block.specs.declared.Counted.{Counted}
 use Rattle.block.specs.declared.Counted.the-variants as counted
 use Rattle.block.specs.declared.Found.{Found}
 use Rattle.block.specs.declared.Found.the-variants as found
-use Rattle.block.specs.Read.{fieldAt, sampleAt, listed}
+use Rattle.block.specs.Read.{fieldAt, sampleAt, rgb}
 
 -- what the answers of the walk and of a section say
-abbrev pub toldCount : Counted → Outcome ℕ
-toldCount (counted.Count w) = accepted w
-toldCount (counted.Refused r) = refused (refusal r)
+abbrev pub countOutcome : Counted → Outcome ℕ
+countOutcome (counted.Count w) = accepted w
+countOutcome (counted.Refused r) = refused (refusal r)
 
-abbrev pub toldWalk : Found → Outcome Walked
-toldWalk (found.Block b) = accepted b
-toldWalk (found.Refused r) = refused (refusal r)
+abbrev pub walkOutcome : Found → Outcome Walked
+walkOutcome (found.Block b) = accepted b
+walkOutcome (found.Refused r) = refused (refusal r)
 
 -- the first n words from a place are in a range
 unfoldable pub inRange : Range → List ℕ → ℕ → ℕ → Bool
@@ -46,7 +46,7 @@ pub record Decodable (s : ℕ) (bs : List ℕ) (w room : ℕ) : Type 0 where
 
 -- a component as the slice holds it until it is clipped, and back
 abbrev pub biased : ℤ → ℕ
-biased v = whole (v +ℤ pos 16384)
+biased v = natural (v +ℤ pos 16384)
 
 abbrev pub unbiased : ℕ → ℤ
 unbiased n = pos n -ℤ pos 16384
@@ -62,12 +62,12 @@ biasedTriple v = record { r = biased (v .r); g = biased (v .g); b = biased (v .b
 
 -- R, G and B of a row's samples before they are clipped
 abbrev pub biasedRow : Matrix → ℕ → (ℕ → Words) → ℕ → Codes
-biasedRow x s row i = biasedTriple (unclippedAt x s (row i))
+biasedRow x s sample i = biasedTriple (unclippedAt x s (sample i))
 
 -- the triples of a row's first n samples, one behind the other
-unfoldable pub listedTo : (ℕ → Codes) → ℕ → List ℕ
-listedTo row zero = []
-listedTo row (suc n) = listedTo row n ++ listed (row n)
+unfoldable pub triplesTo : (ℕ → Codes) → ℕ → List ℕ
+triplesTo sample zero = []
+triplesTo sample (suc n) = triplesTo sample n ++ rgb (sample n)
 
 -- a range to which biased components can be clipped
 pub record Clippable (n : Range) : Type 0 where

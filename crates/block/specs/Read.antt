@@ -59,26 +59,26 @@ sampleAt bs w i = record { y = fieldAt bs (5 + 2 * i); cb = fieldAt bs (7 + 2 * 
 
 -- the words of a row's first n samples are nominal
 unfoldable pub nominalTo : System → (ℕ → Words) → ℕ → Bool
-nominalTo y row zero = true
-nominalTo y row (suc n) = nominalTo y row n && wordsWithin y (row n)
+nominalTo y sample zero = true
+nominalTo y sample (suc n) = nominalTo y sample n && wordsWithin y (sample n)
 
 -- the codes of a row's samples, from their words
 abbrev pub decoded : Matrix → ℕ → (ℕ → Words) → ℕ → Clipped
-decoded x s row i = codesAt x s (row i)
+decoded x s sample i = codesAt x s (sample i)
 
 -- R, G and B of a sample
-abbrev pub listed : Codes → List ℕ
-listed c = c .r ∷ c .g ∷ c .b ∷ []
+abbrev pub rgb : Codes → List ℕ
+rgb c = c .r ∷ c .g ∷ c .b ∷ []
 
 -- R, G and B of a row's first n samples
 unfoldable pub codesTo : (ℕ → Clipped) → ℕ → List ℕ
-codesTo row zero = []
-codesTo row (suc n) = codesTo row n ++ listed (row n .codes)
+codesTo sample zero = []
+codesTo sample (suc n) = codesTo sample n ++ rgb (sample n .codes)
 
 -- how many of them were clipped
 unfoldable pub clippedTo : (ℕ → Clipped) → ℕ → ℕ
-clippedTo row zero = 0
-clippedTo row (suc n) = clippedTo row n + row n .count
+clippedTo sample zero = 0
+clippedTo sample (suc n) = clippedTo sample n + sample n .count
 
 -- the codes of a block of w samples
 abbrev pub rowOf : System → List ℕ → ℕ → ℕ → Clipped
@@ -103,6 +103,6 @@ abbrev pub sliceAfter : List ℕ → List ℕ → List ℕ
 sliceAfter bs slice = sliceBy (headerOf bs (length slice)) bs slice
 
 -- what the answer says
-abbrev pub toldHeader : BlockRead → Outcome Header
-toldHeader (answer.Row h) = accepted h
-toldHeader (answer.Refused r) = refused (refusal r)
+abbrev pub headerOutcome : BlockRead → Outcome Header
+headerOutcome (answer.Row h) = accepted h
+headerOutcome (answer.Refused r) = refused (refusal r)

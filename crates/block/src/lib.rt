@@ -30,8 +30,8 @@ ghost use lib.Seq.{sets};
 ghost use Rattle.systems.specs.Systems.{scale, within};
 ghost use Rattle.matrix.specs.Triples.{clipped, beyond};
 ghost use Rattle.block.specs.Block.{size};
-ghost use Rattle.block.specs.Read.{fieldAt, sectionAt, sections, walk, sampleAt, nominalTo, listed, codesTo, clippedTo, rowOf, headerOf, sliceAfter, toldHeader};
-ghost use Rattle.block.specs.Inner.{toldCount, toldWalk, inRange, Decodable, biased, unbiased, BiasFits, biasedTriple, biasedRow, listedTo, Clippable, atLeast, atMost, clippedAll, beyondAll};
+ghost use Rattle.block.specs.Read.{fieldAt, sectionAt, sections, walk, sampleAt, nominalTo, rgb, codesTo, clippedTo, rowOf, headerOf, sliceAfter, headerOutcome};
+ghost use Rattle.block.specs.Inner.{countOutcome, walkOutcome, inRange, Decodable, biased, unbiased, BiasFits, biasedTriple, biasedRow, triplesTo, Clippable, atLeast, atMost, clippedAll, beyondAll};
 
 // What a block says of its row, and how many components were clipped in its codes.
 pub struct Header {
@@ -71,7 +71,7 @@ const BIAS: u16 = 1 << 14;
 
 // Reads a block's codes into the front of a slice. Refused: in the walk 8, 1, 10, then 8, 9, 8 at each section; then 11, 6, 5.
 pub fn read_block(bytes: &[u8], codes: &mut [u16]) -> BlockRead
-    ensures { λ r. ⌜ toldHeader r ≡ headerOf (now (bytes .entry)) (length (now (codes .entry))) ⌝ }
+    ensures { λ r. ⌜ headerOutcome r ≡ headerOf (now (bytes .entry)) (length (now (codes .entry))) ⌝ }
     ensures { λ r. ⌜ now (codes .exit) ≡ sliceAfter (now (bytes .entry)) (now (codes .entry)) ⌝ }
 {
     match walk(bytes) {
@@ -100,7 +100,7 @@ pub fn read_block(bytes: &[u8], codes: &mut [u16]) -> BlockRead
 
 // From the front: system, row number and sections.
 fn walk(bytes: &[u8]) -> Found
-    ensures { λ r. ⌜ toldWalk r ≡ walk (now (bytes .entry)) ⌝ }
+    ensures { λ r. ⌜ walkOutcome r ≡ walk (now (bytes .entry)) ⌝ }
 {
     if bytes.len() < LUMA_COUNT {
         return Found::Refused(Refusal::BlockEnd);
@@ -121,7 +121,7 @@ fn walk(bytes: &[u8]) -> Found
 
 // The count of the three sections.
 fn sections(bytes: &[u8]) -> Counted
-    ensures { λ r. ⌜ toldCount r ≡ sections (now (bytes .entry)) ⌝ }
+    ensures { λ r. ⌜ countOutcome r ≡ sections (now (bytes .entry)) ⌝ }
 {
     let any = Range {
         low: 1,
@@ -151,7 +151,7 @@ fn sections(bytes: &[u8]) -> Counted
 // The count of the section at a place, which the range must hold.
 fn section_at(bytes: &[u8], at: usize, counts: Range) -> Counted
     requires { ⌜ at ≤ 7 + 4 * 65535 ⌝ }
-    ensures { λ r. ⌜ toldCount r ≡ sectionAt (now (bytes .entry)) at (within counts) ⌝ }
+    ensures { λ r. ⌜ countOutcome r ≡ sectionAt (now (bytes .entry)) at (within counts) ⌝ }
 {
     if bytes.len() < at + 2 {
         return Counted::Refused(Refusal::BlockEnd);
@@ -221,7 +221,7 @@ fn decode(system: System, bytes: &[u8], codes: &mut [u16], samples: usize) -> u3
 // The samples' R, G and B before they are clipped.
 fn put_unclipped(x: Matrix, y: System, bytes: &[u8], codes: &mut [u16], samples: usize)
     requires { ⌜ Decodable (scale y) (now bytes) samples (length (now codes)) ⌝ }
-    ensures { λ r. ⌜ now (codes .exit) ≡ listedTo (biasedRow x (scale y) (sampleAt (now (bytes .entry)) samples)) samples ++ drop (3 * samples) (now (codes .entry)) ⌝ }
+    ensures { λ r. ⌜ now (codes .exit) ≡ triplesTo (biasedRow x (scale y) (sampleAt (now (bytes .entry)) samples)) samples ++ drop (3 * samples) (now (codes .entry)) ⌝ }
 {
     let mut i: usize = 0;
     while i < samples {
@@ -246,7 +246,7 @@ fn words_at(bytes: &[u8], samples: usize, i: usize) -> Words
 // R, G and B of sample i.
 fn put_triple(codes: &mut [u16], i: usize, v: Unclipped)
     requires { ⌜ (3 * i + 3 ≤ length (now codes)) × (i ≤ 7680) × BiasFits v ⌝ }
-    ensures { λ r. ⌜ now (codes .exit) ≡ sets (now (codes .entry)) (3 * i) (listed (biasedTriple v)) ⌝ }
+    ensures { λ r. ⌜ now (codes .exit) ≡ sets (now (codes .entry)) (3 * i) (rgb (biasedTriple v)) ⌝ }
 {
     codes[3 * i] = biased(v.r);
     codes[3 * i + 1] = biased(v.g);

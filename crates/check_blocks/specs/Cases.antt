@@ -68,8 +68,8 @@ place bs zero = 0
 place bs (suc n) = place bs n + sizeOf (caseAt bs (place bs n))
 
 -- a whole case stands at a place
-abbrev pub wholeAt : List ℕ → ℕ → Bool
-wholeAt bs at = leb (at + 16) (length bs) && leb (at + sizeOf (caseAt bs at)) (length bs)
+abbrev pub completeAt : List ℕ → ℕ → Bool
+completeAt bs at = leb (at + 16) (length bs) && leb (at + sizeOf (caseAt bs at)) (length bs)
 
 -- the tally after a case and the bytes behind its numbers: it counts where its refusal is the one in question
 abbrev pub caseTallied : Case → List ℕ → ℕ → Tally → Tally
@@ -86,6 +86,6 @@ tallyTo bs refusal (suc n) = talliedAt bs refusal (place bs n) (tallyTo bs refus
 -- the tally of all cases: of those that are there whole, up to the first that is not; bytes that are left are a case that is cut off
 pub record Compared (bs : List ℕ) (refusal : ℕ) (t : Tally) : Type 0 where
   pub count : ℕ
-  pub whole : (i : ℕ) → i < count → wholeAt bs (place bs i) ≡ true
-  pub no-more : wholeAt bs (place bs count) ≡ false
+  pub complete : (i : ℕ) → i < count → completeAt bs (place bs i) ≡ true
+  pub no-more : completeAt bs (place bs count) ≡ false
   pub tally : t ≡ ended (tallyTo bs refusal count) (length bs - place bs count)

@@ -2,8 +2,8 @@
 ghost use mathlib.Core.Path.{_≡_};
 ghost use Prim.Native.Nat.{_+_, _≤_};
 ghost use lib.ListN.{length};
-ghost use Rattle.block.specs.Read.{toldHeader};
-ghost use Rattle.check_blocks.specs.Cases.{caseAt, sizeOf, sameHeader, agrees, answered, met, wholeAt, caseTallied, Compared};
+ghost use Rattle.block.specs.Read.{headerOutcome};
+ghost use Rattle.check_blocks.specs.Cases.{caseAt, sizeOf, sameHeader, agrees, answered, met, completeAt, caseTallied, Compared};
 use crate::slice;
 use block::BlockRead;
 use block::Header;
@@ -40,7 +40,7 @@ pub fn compare(cases: &[u8], refusal: u32) -> Tally
 // Whether a whole case stands at a place.
 fn holds_case(cases: &[u8], at: usize) -> bool
     requires { ⌜ at ≤ length (now cases) ⌝ }
-    ensures { λ r. ⌜ r ≡ wholeAt (now (cases .entry)) at ⌝ }
+    ensures { λ r. ⌜ r ≡ completeAt (now (cases .entry)) at ⌝ }
 {
     if cases.len() - at < 16 {
         return false;
@@ -116,7 +116,7 @@ impl Case {
     }
 
     fn has(self, answer: BlockRead) -> bool
-        ensures { λ r. ⌜ r ≡ agrees (toldHeader answer) self ⌝ }
+        ensures { λ r. ⌜ r ≡ agrees (headerOutcome answer) self ⌝ }
     {
         match answer {
             BlockRead::Row(header) => (self.refusal == 0) & self.is(header),

@@ -56,8 +56,8 @@ abbrev pub rowBuffer : Call → Picture → List ℕ → List ℕ → List ℕ
 rowBuffer c p lights lent = cond (isThere c lights lent) (bufferAfter p (lightsOf c lights) (take (room c) lent) ++ drop (room c) lent) lent
 
 -- a call's answer by its kind: open is 1, row 2, close 3, and any other begins a list with a fresh picture
-abbrev pub answerOf : Call → Picture → List ℕ → List ℕ → Outcome Picture
-answerOf c p lights lent =
+abbrev pub callAnswer : Call → Picture → List ℕ → List ℕ → Outcome Picture
+callAnswer c p lights lent =
     cond (eqb (c .kind) 1) (opening p (c .first) (c .second) (c .third))
     (cond (eqb (c .kind) 2) (rowAnswer c p lights lent)
     (cond (eqb (c .kind) 3) (closing p) (accepted (at Fresh))))
@@ -120,14 +120,14 @@ unfoldable pub place : List ℕ → ℕ → ℕ
 place bs zero = 0
 place bs (suc n) = place bs n + sizeOf (callAt bs (place bs n))
 
-abbrev pub wholeAt : List ℕ → ℕ → Bool
-wholeAt bs at = leb (at + 26) (length bs) && leb (at + sizeOf (callAt bs at)) (length bs)
+abbrev pub completeAt : List ℕ → ℕ → Bool
+completeAt bs at = leb (at + 26) (length bs) && leb (at + sizeOf (callAt bs at)) (length bs)
 
 -- the calls are taken one behind the other, up to the first that is not there whole; bytes that are left are a call that is cut off, and it
 -- differs
 pub record Played (bs : List ℕ) (t : Tally) : Type 0 where
   pub count : ℕ
-  pub whole : (i : ℕ) → i < count → wholeAt bs (place bs i) ≡ true
-  pub no-more : wholeAt bs (place bs count) ≡ false
+  pub complete : (i : ℕ) → i < count → completeAt bs (place bs i) ≡ true
+  pub no-more : completeAt bs (place bs count) ≡ false
   pub before : Tally
   pub tally : t ≡ ended before (length bs - place bs count)

@@ -4,9 +4,9 @@ ghost use mathlib.Core.Bool.{_&&_};
 ghost use Prim.Native.Nat.{_+_, _≤_};
 ghost use lib.Dec.{eqb};
 ghost use lib.ListN.{length};
-ghost use Rattle.block.specs.Read.{toldHeader};
-ghost use Rattle.picture.specs.Picture.{toldPicture};
-ghost use Rattle.check_pictures.specs.Calls.{callAt, blockLength, room, rowAnswer, rowBuffer, answerOf, bufferOf, agrees, sameHeader, readAs};
+ghost use Rattle.block.specs.Read.{headerOutcome};
+ghost use Rattle.picture.specs.Picture.{pictureOutcome};
+ghost use Rattle.check_pictures.specs.Calls.{callAt, blockLength, room, rowAnswer, rowBuffer, callAnswer, bufferOf, agrees, sameHeader, readAs};
 use block::BlockRead;
 use block::Header;
 use check_records::u16_at;
@@ -92,7 +92,7 @@ impl Call {
 
     // Makes the call.
     pub fn answer(self, picture: Picture, lights: &[u16], lent: &mut [u8]) -> Change
-        ensures { λ r. ⌜ toldPicture r ≡ answerOf self picture (now (lights .entry)) (now (lent .entry)) ⌝ }
+        ensures { λ r. ⌜ pictureOutcome r ≡ callAnswer self picture (now (lights .entry)) (now (lent .entry)) ⌝ }
         ensures { λ r. ⌜ now (lent .exit) ≡ bufferOf self picture (now (lights .entry)) (now (lent .entry)) ⌝ }
     {
         let kind = self.kind;
@@ -106,7 +106,7 @@ impl Call {
 
     // A row whose lights or buffer are not there is answered as no picture answers.
     fn row(self, picture: Picture, lights: &[u16], lent: &mut [u8]) -> Change
-        ensures { λ r. ⌜ toldPicture r ≡ rowAnswer self picture (now (lights .entry)) (now (lent .entry)) ⌝ }
+        ensures { λ r. ⌜ pictureOutcome r ≡ rowAnswer self picture (now (lights .entry)) (now (lent .entry)) ⌝ }
         ensures { λ r. ⌜ now (lent .exit) ≡ rowBuffer self picture (now (lights .entry)) (now (lent .entry)) ⌝ }
     {
         let start = self.first as usize;
@@ -122,7 +122,7 @@ impl Call {
     }
 
     pub fn has(self, answer: Change) -> bool
-        ensures { λ r. ⌜ r ≡ agrees (toldPicture answer) self ⌝ }
+        ensures { λ r. ⌜ r ≡ agrees (pictureOutcome answer) self ⌝ }
     {
         match answer {
             Change::To(_) => self.refusal == 0,
@@ -132,7 +132,7 @@ impl Call {
 
     // Whether reading answers with the row that this call was.
     pub fn is_read(self, answer: BlockRead) -> bool
-        ensures { λ r. ⌜ r ≡ readAs (toldHeader answer) self ⌝ }
+        ensures { λ r. ⌜ r ≡ readAs (headerOutcome answer) self ⌝ }
     {
         match answer {
             BlockRead::Row(header) => self.is(header),

@@ -2,7 +2,7 @@
 ghost use mathlib.Core.Path.{_≡_};
 ghost use mathlib.Core.Bool.{_&&_};
 ghost use lib.Dec.{eqb};
-ghost use Rattle.picture.specs.Picture.{toldPicture};
+ghost use Rattle.picture.specs.Picture.{pictureOutcome};
 ghost use Rattle.check_pictures.specs.Calls.{agrees, rowsOf, Played};
 use crate::call;
 use crate::call::Call;
@@ -72,7 +72,7 @@ fn expect_block(block: &[u8], due: &mut [u8]) {
 
 // Whether the answer and the rows accepted of the picture after it are the book's.
 fn is_met(call: Call, answer: Change, picture: Picture) -> bool
-    ensures { λ r. ⌜ r ≡ (agrees (toldPicture answer) call && eqb (rowsOf (picture .phase)) (call .rows)) ⌝ }
+    ensures { λ r. ⌜ r ≡ (agrees (pictureOutcome answer) call && eqb (rowsOf (picture .phase)) (call .rows)) ⌝ }
 {
     call.has(answer) & (rows_of(picture) == call.rows)
 }

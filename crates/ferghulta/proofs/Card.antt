@@ -8,7 +8,7 @@ use contract.Lifetimes.{Lfts}
 use denote.Ref.{RefT, now}
 use Rattle.exact.specs.Outcome.{Outcome}
 use Rattle.exact.specs.Outcome as outcome
-use Rattle.picture.specs.Book.{Heard, accepted, refused}
+use Rattle.picture.specs.Book.{Answer, accepted, refused}
 use Rattle.picture.proofs.Calls.{Label, Card}
 use Rattle.ferghulta.specs.declared.calls.BlockAnswer.{BlockAnswer}
 use Rattle.ferghulta.specs.declared.stored_picture.StoredPicture.{StoredPicture}
@@ -20,12 +20,12 @@ use Rattle.ferghulta.proofs.picture_calls.ferghulta_close.Reads as clos
 use Rattle.ferghulta.proofs.calls.ferghulta_read_block.Reads as read-call
 
 -- what the caller hears: refusal 0 is accepted
-abbrev pub heardIf : Bool → ℕ → Heard
-heardIf true n = accepted
-heardIf false n = refused n
+abbrev pub answerIf : Bool → ℕ → Answer
+answerIf true n = accepted
+answerIf false n = refused n
 
-abbrev pub heardBy : PictureAnswer → Heard
-heardBy a = heardIf (eqb (a .refusal) 0) (a .refusal)
+abbrev pub answerBy : PictureAnswer → Answer
+answerBy a = answerIf (eqb (a .refusal) 0) (a .refusal)
 
 -- what a reading tells: with refusal 0, the numbers beside it
 abbrev pub labelIf : Bool → BlockAnswer → Outcome Label
@@ -36,16 +36,16 @@ abbrev pub labelBy : BlockAnswer → Outcome Label
 labelBy a = labelIf (eqb (a .refusal) 0) a
 
 -- the next call is given the picture that the answer has
-pub data Opens (k : StoredPicture) (n w h : ℕ) : Heard → StoredPicture → Type 0 where
-  by-open : (a : PictureAnswer) (k′ : StoredPicture) (n′ w′ h′ : ℕ) → open-call.Post tt (k, (n, (w, (h, tt)))) a (k′, (n′, (w′, (h′, tt)))) → Opens k n w h (heardBy a) (a .picture)
+pub data Opens (k : StoredPicture) (n w h : ℕ) : Answer → StoredPicture → Type 0 where
+  by-open : (a : PictureAnswer) (k′ : StoredPicture) (n′ w′ h′ : ℕ) → open-call.Post tt (k, (n, (w, (h, tt)))) a (k′, (n′, (w′, (h′, tt)))) → Opens k n w h (answerBy a) (a .picture)
 
 -- κs are the lifetimes of the two references, whatever they are
-pub data Rows (k : StoredPicture) : List ℕ → List ℕ → Heard → List ℕ → StoredPicture → Type 0 where
+pub data Rows (k : StoredPicture) : List ℕ → List ℕ → Answer → List ℕ → StoredPicture → Type 0 where
   by-row : (κs : Lfts 2) (lights out lights′ out′ : RefT (List ℕ)) (a : PictureAnswer) (k′ : StoredPicture) → row-call.Post κs (k, (lights, (out, tt))) a (k′, (lights′, (out′, tt)))
-      → Rows k (now lights) (now out) (heardBy a) (now out′) (a .picture)
+      → Rows k (now lights) (now out) (answerBy a) (now out′) (a .picture)
 
-pub data Closes (k : StoredPicture) : Heard → StoredPicture → Type 0 where
-  by-close : (a : PictureAnswer) (k′ : StoredPicture) → close-call.Post tt (k, tt) a (k′, tt) → Closes k (heardBy a) (a .picture)
+pub data Closes (k : StoredPicture) : Answer → StoredPicture → Type 0 where
+  by-close : (a : PictureAnswer) (k′ : StoredPicture) → close-call.Post tt (k, tt) a (k′, tt) → Closes k (answerBy a) (a .picture)
 
 pub data Reads : List ℕ → List ℕ → Outcome Label → List ℕ → Type 0 where
   by-read-block : (κs : Lfts 2) (bytes slice bytes′ slice′ : RefT (List ℕ)) (a : BlockAnswer) → read-call.Post κs (bytes, (slice, tt)) a (bytes′, (slice′, tt))

@@ -9,60 +9,60 @@ use denote.Ref.{now}
 use Rattle.exact.specs.Outcome as outcome
 use Rattle.exact.specs.Outcome.{Outcome}
 use Rattle.systems.specs.Refusals.{refusal}
-use Rattle.systems.proofs.Tellable.{Tellable, values, refusing, never-0}
+use Rattle.systems.proofs.Answerable.{Answerable, values, refusing, never-0}
 use Rattle.block.specs.declared.Header.{Header}
 use Rattle.block.specs.Read.{headerOf, sliceAfter}
-use Rattle.block.proofs.Tellable.{reading-tellable}
+use Rattle.block.proofs.Answerable.{reading-answerable}
 use Rattle.picture.specs.declared.Picture.{Picture}
 use Rattle.picture.specs.Picture.{opening, rowing, bufferAfter, closing}
-use Rattle.picture.specs.Book.{Call, State, fresh, Heard}
+use Rattle.picture.specs.Book.{Call, State, fresh, Answer}
 use Rattle.picture.proofs.Calls.{Label, Lent, Ran, History}
 use Rattle.picture.proofs.Card.{leads, labelOf}
 use Rattle.picture.proofs.Claims.{stateOf, Proper, Demanded}
 use Rattle.picture.proofs.Steps.{open-step, row-step, close-step}
 use Rattle.picture.proofs.Faithful.{Follows, Faithful}
 use Rattle.picture.proofs.Demand.{run, demanded}
-use Rattle.picture.proofs.Tellable.{open-tellable, row-tellable, close-tellable}
+use Rattle.picture.proofs.Answerable.{open-answerable, row-answerable, close-answerable}
 use Rattle.ferghulta.specs.declared.calls.BlockAnswer.{BlockAnswer}
 use Rattle.ferghulta.specs.declared.stored_picture.StoredPicture.{StoredPicture}
 use Rattle.ferghulta.specs.declared.picture_calls.PictureAnswer.{PictureAnswer}
 use Rattle.ferghulta.specs.Answers.{blockAnswer}
 use Rattle.ferghulta.specs.Stored.{pictureOf, pictureAnswer}
-use Rattle.ferghulta.proofs.Card.{heardIf, heardBy, labelIf, labelBy, Opens, by-open, Rows, by-row, Closes, by-close, Reads, by-read-block, card}
+use Rattle.ferghulta.proofs.Card.{answerIf, answerBy, labelIf, labelBy, Opens, by-open, Rows, by-row, Closes, by-close, Reads, by-read-block, card}
 use Rattle.ferghulta.proofs.Stored.{stored-returns, taken-proper}
 
 -- a call on k whose outcome on its picture is o
-follows : (k : StoredPicture) {o : Outcome Picture} {a : PictureAnswer} → Tellable o → Proper (leads (pictureOf k) o .phase) → a ≡ pictureAnswer k o
-    → Follows (pictureOf k) o (heardBy a) (pictureOf (a .picture))
-follows k (values p) g e = record { same = ap heardBy e; next = ap (λ (x : PictureAnswer). pictureOf (x .picture)) e ∙ stored-returns p g }
+follows : (k : StoredPicture) {o : Outcome Picture} {a : PictureAnswer} → Answerable o → Proper (leads (pictureOf k) o .phase) → a ≡ pictureAnswer k o
+    → Follows (pictureOf k) o (answerBy a) (pictureOf (a .picture))
+follows k (values p) g e = record { same = ap answerBy e; next = ap (λ (x : PictureAnswer). pictureOf (x .picture)) e ∙ stored-returns p g }
 follows k (refusing r) g e = record {
-  same = ap heardBy e ∙ ap (λ (b : Bool). heardIf b (refusal r)) (never-0 r);
+  same = ap answerBy e ∙ ap (λ (b : Bool). answerIf b (refusal r)) (never-0 r);
   next = ap (λ (x : PictureAnswer). pictureOf (x .picture)) e;
 }
 
-opens-so : {k k′ : StoredPicture} {n w h : ℕ} {heard : Heard} → Opens k n w h heard k′ → Follows (pictureOf k) (opening (pictureOf k) n w h) heard (pictureOf k′)
+opens-so : {k k′ : StoredPicture} {n w h : ℕ} {answer : Answer} → Opens k n w h answer k′ → Follows (pictureOf k) (opening (pictureOf k) n w h) answer (pictureOf k′)
 opens-so {k} {n = n} {w = w} {h = h} (by-open a _ _ _ _ post) =
     let f = pictureOf k .phase in
-    follows k (open-tellable f n w h) (open-step f n w h .stays (taken-proper k)) post
+    follows k (open-answerable f n w h) (open-step f n w h .stays (taken-proper k)) post
 
-rows-so : {k k′ : StoredPicture} {lights out out′ : List ℕ} {heard : Heard} → Rows k lights out heard out′ k′
-    → Follows (pictureOf k) (rowing (pictureOf k) lights (length out)) heard (pictureOf k′) × (out′ ≡ bufferAfter (pictureOf k) lights out)
+rows-so : {k k′ : StoredPicture} {lights out out′ : List ℕ} {answer : Answer} → Rows k lights out answer out′ k′
+    → Follows (pictureOf k) (rowing (pictureOf k) lights (length out)) answer (pictureOf k′) × (out′ ≡ bufferAfter (pictureOf k) lights out)
 rows-so {k} (by-row _ lights out _ _ a _ post) =
     let f = pictureOf k .phase in
     let room = length (now out) in
-    (follows k (row-tellable f (now lights) room) (row-step f (now lights) room .stays (taken-proper k)) (post .0), post .1)
+    (follows k (row-answerable f (now lights) room) (row-step f (now lights) room .stays (taken-proper k)) (post .0), post .1)
 
-closes-so : {k k′ : StoredPicture} {heard : Heard} → Closes k heard k′ → Follows (pictureOf k) (closing (pictureOf k)) heard (pictureOf k′)
+closes-so : {k k′ : StoredPicture} {answer : Answer} → Closes k answer k′ → Follows (pictureOf k) (closing (pictureOf k)) answer (pictureOf k′)
 closes-so {k} (by-close a _ post) =
     let f = pictureOf k .phase in
-    follows k (close-tellable f) (close-step f .stays (taken-proper k)) post
+    follows k (close-answerable f) (close-step f .stays (taken-proper k)) post
 
-tells : {o : Outcome Header} {a : BlockAnswer} → Tellable o → a ≡ blockAnswer o → labelBy a ≡ labelOf o
+tells : {o : Outcome Header} {a : BlockAnswer} → Answerable o → a ≡ blockAnswer o → labelBy a ≡ labelOf o
 tells (values h) e = ap labelBy e
 tells (refusing r) e = ap labelBy e ∙ ap (λ (b : Bool). labelIf b (blockAnswer (outcome.refused (refusal r)))) (never-0 r)
 
 reads-so : {bytes slice left : List ℕ} {r : Outcome Label} → Reads bytes slice r left → (r ≡ labelOf (headerOf bytes (length slice))) × (left ≡ sliceAfter bytes slice)
-reads-so (by-read-block _ bytes slice _ _ a post) = (tells (reading-tellable (now bytes) (length (now slice))) (post .0), post .1)
+reads-so (by-read-block _ bytes slice _ _ a post) = (tells (reading-answerable (now bytes) (length (now slice))) (post .0), post .1)
 
 faithful : Faithful card
 faithful = record { picture = pictureOf; news = λ made. ap pictureOf made; opens = opens-so; rows = rows-so; closes = closes-so; reads = reads-so }
@@ -72,11 +72,11 @@ abbrev pub stateAt : StoredPicture → State
 stateAt k = stateOf (pictureOf k .phase)
 
 -- Demand 3, of the exported functions
-pub demand-3 : {cs : List Call} {hs : List Heard} {ls : List Lent} {l : StoredPicture} → History card cs hs ls l → Demanded card fresh cs hs ls (stateAt l)
+pub demand-3 : {cs : List Call} {ans : List Answer} {ls : List Lent} {l : StoredPicture} → History card cs ans ls l → Demanded card fresh cs ans ls (stateAt l)
 unfolding faithful
 demand-3 s = demanded faithful s
 
 -- and whatever eight bytes a caller begins with
-pub from-any : {k l : StoredPicture} {cs : List Call} {hs : List Heard} {ls : List Lent} → Ran card k cs hs ls l → Demanded card (stateAt k) cs hs ls (stateAt l)
+pub from-any : {k l : StoredPicture} {cs : List Call} {ans : List Answer} {ls : List Lent} → Ran card k cs ans ls l → Demanded card (stateAt k) cs ans ls (stateAt l)
 unfolding faithful
 from-any {k} r = run faithful (taken-proper k) r .demanded

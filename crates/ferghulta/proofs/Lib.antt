@@ -2,4 +2,4 @@ pub mod Card
 pub mod Stored
 pub mod Exported
 pub mod Histories
-pub mod Whole
+pub mod Theorem

@@ -2,7 +2,7 @@
 ghost use mathlib.Core.Path.{_≡_};
 ghost use lib.ListN.{length};
 ghost use Rattle.picture.specs.declared.Phase.the-variants.{Fresh};
-ghost use Rattle.picture.specs.Picture.{at, opening, rowing, bufferAfter, closing, toldPicture};
+ghost use Rattle.picture.specs.Picture.{at, opening, rowing, bufferAfter, closing, pictureOutcome};
 ghost use Rattle.ferghulta.specs.Stored.{stored, pictureOf, pictureAnswer};
 use crate::stored_picture::StoredPicture;
 use crate::stored_picture::picture_of;
@@ -58,7 +58,7 @@ pub extern "C" fn ferghulta_close(picture: StoredPicture) -> PictureAnswer
 }
 
 fn answer(given: StoredPicture, change: Change) -> PictureAnswer
-    ensures { λ r. ⌜ r ≡ pictureAnswer given (toldPicture change) ⌝ }
+    ensures { λ r. ⌜ r ≡ pictureAnswer given (pictureOutcome change) ⌝ }
 {
     match change {
         Change::To(p) => PictureAnswer {

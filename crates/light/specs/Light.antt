@@ -25,10 +25,10 @@ abbrev pub spanOfCode : ℕ → ℕ → Outcome Span
 spanOfCode n d = named n and-then λ y. require (within (nominal y) d) 6 (accepted (span y d))
 
 -- what the answers say
-abbrev pub toldCode : LightCode → Outcome ℕ
-toldCode (light-code.Code d) = accepted d
-toldCode (light-code.Refused r) = refused (refusal r)
+abbrev pub codeOutcome : LightCode → Outcome ℕ
+codeOutcome (light-code.Code d) = accepted d
+codeOutcome (light-code.Refused r) = refused (refusal r)
 
-abbrev pub toldSpan : CodeSpan → Outcome Span
-toldSpan (code-span.Lights s) = accepted s
-toldSpan (code-span.Refused r) = refused (refusal r)
+abbrev pub spanOutcome : CodeSpan → Outcome Span
+spanOutcome (code-span.Lights s) = accepted s
+spanOutcome (code-span.Refused r) = refused (refusal r)

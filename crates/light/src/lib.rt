@@ -13,7 +13,7 @@ ghost use lib.ListN.{length, getD};
 ghost use Rattle.systems.specs.Systems.{scale};
 ghost use Rattle.curve.specs.Curve.{code};
 ghost use Rattle.curve.specs.Inner.{quantiserOf, Boundaries};
-ghost use Rattle.light.specs.Light.{codeOfLight, span, spanOfCode, toldCode, toldSpan};
+ghost use Rattle.light.specs.Light.{codeOfLight, span, spanOfCode, codeOutcome, spanOutcome};
 
 pub enum LightCode {
     Code(u16),
@@ -34,7 +34,7 @@ pub enum CodeSpan {
 
 // The code of a light. Refused: 1.
 pub fn code_of_light(system: u32, light: u16) -> LightCode
-    ensures { λ r. ⌜ toldCode r ≡ codeOfLight system light ⌝ }
+    ensures { λ r. ⌜ codeOutcome r ≡ codeOfLight system light ⌝ }
 {
     match System::from_number(system) {
         Named::Known(y) => LightCode::Code(code_of(y, light) as u16),
@@ -44,7 +44,7 @@ pub fn code_of_light(system: u32, light: u16) -> LightCode
 
 // The lights that have a code. Refused: 1, then 6.
 pub fn span_of_code(system: u32, code: u16) -> CodeSpan
-    ensures { λ r. ⌜ toldSpan r ≡ spanOfCode system code ⌝ }
+    ensures { λ r. ⌜ spanOutcome r ≡ spanOfCode system code ⌝ }
 {
     match System::from_number(system) {
         Named::Known(y) => {

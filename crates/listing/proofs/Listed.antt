@@ -12,11 +12,11 @@ use Rattle.exact.proofs.Order.{below-or-not}
 use Rattle.systems.specs.declared.Codes.{Codes}
 use Rattle.matrix.specs.declared.Clipped.{Clipped}
 use Rattle.block.specs.declared.Header.{Header}
-use Rattle.block.specs.Read.{listed, codesTo, rowOf, headerOf, sliceAfter}
+use Rattle.block.specs.Read.{rgb, codesTo, rowOf, headerOf, sliceAfter}
 use Rattle.block.proofs.Decoding.{length-codes}
 use Rattle.block.proofs.Reading.{codes-in-front}
 use Rattle.listing.specs.Listing.{headerLine, linesTo, refusedLine, listingBy, listing}
-use Rattle.listing.specs.Text.{tripleAt}
+use Rattle.listing.specs.Inner.{tripleAt}
 
 module _ (f g : ℕ → Codes) where
   lines-agree : (n : ℕ) → ((i : ℕ) → i < n → f i ≡ g i) → linesTo f n ≡ linesTo g n
@@ -26,10 +26,10 @@ module _ (f g : ℕ → Codes) where
 
 module _ (row : ℕ → Clipped) where
   -- the triple behind those of n samples
-  triple-behind : (n : ℕ) (rest : List ℕ) → tripleAt (codesTo row n ++ (listed (row n .codes) ++ rest)) n ≡ row n .codes
+  triple-behind : (n : ℕ) (rest : List ℕ) → tripleAt (codesTo row n ++ (rgb (row n .codes) ++ rest)) n ≡ row n .codes
   triple-behind n rest =
       let front = codesTo row n in
-      let three = listed (row n .codes) ++ rest in
+      let three = rgb (row n .codes) ++ rest in
       let l : length front ≡ 3 * n = length-codes row n in
       let at : (k : ℕ) → getD (front ++ three) (3 * n + k) 0 ≡ getD three k 0 = λ k. ap (λ (m : ℕ). getD (front ++ three) (m + k) 0) (sym l) ∙ getD-append-add front three k 0 in
       let zeroth : 3 * n ≡ 3 * n + 0 = omega arith in
@@ -38,9 +38,9 @@ module _ (row : ℕ → Clipped) where
   triple-read : (n : ℕ) (rest : List ℕ) (i : ℕ) → i < n → tripleAt (codesTo row n ++ rest) i ≡ row i .codes
   unfolding codesTo
   triple-read zero rest i h = absurd (omega arith)
-  triple-read (suc n) rest i h = rw (append-assoc (codesTo row n) (listed (row n .codes)) rest) (go (triple-read n (listed (row n .codes) ++ rest) i) (below-or-not i n))
+  triple-read (suc n) rest i h = rw (append-assoc (codesTo row n) (rgb (row n .codes)) rest) (go (triple-read n (rgb (row n .codes) ++ rest) i) (below-or-not i n))
     where
-      go : (i < n → tripleAt (codesTo row n ++ (listed (row n .codes) ++ rest)) i ≡ row i .codes) → (i < n) ⊎ (n ≤ i) → tripleAt (codesTo row n ++ (listed (row n .codes) ++ rest)) i ≡ row i .codes
+      go : (i < n → tripleAt (codesTo row n ++ (rgb (row n .codes) ++ rest)) i ≡ row i .codes) → (i < n) ⊎ (n ≤ i) → tripleAt (codesTo row n ++ (rgb (row n .codes) ++ rest)) i ≡ row i .codes
       go before (inl l) = before l
       go before (inr l) = let e : i ≡ n = omega arith in rw e (triple-behind n rest)
 

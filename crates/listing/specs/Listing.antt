@@ -60,8 +60,8 @@ line c = decimal (c .r) ++ space ++ decimal (c .g) ++ space ++ decimal (c .b) ++
 
 -- a line for each of the first n samples
 unfoldable pub linesTo : (ℕ → Codes) → ℕ → List ℕ
-linesTo row zero = []
-linesTo row (suc n) = linesTo row n ++ line (row n)
+linesTo sample zero = []
+linesTo sample (suc n) = linesTo sample n ++ line (sample n)
 
 -- the one line of a refusal
 unfoldable pub refusedLine : ℕ → List ℕ

@@ -8,7 +8,7 @@ ghost use lib.ListN.{length, drop};
 ghost use Rattle.io.specs.Counts.{Counts};
 ghost use Rattle.systems.specs.Refusals.{refusal};
 ghost use Rattle.listing.specs.Listing.{decimal, headerLine, linesTo, refusedLine, listing};
-ghost use Rattle.listing.specs.Text.{Put, tripleAt};
+ghost use Rattle.listing.specs.Inner.{Put, tripleAt};
 use block::BlockRead;
 use block::Header;
 use systems::Codes;

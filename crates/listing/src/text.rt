@@ -4,7 +4,7 @@ ghost use Prim.Native.Nat.{_+_, _≤_, _<_};
 ghost use mathlib.Core.List.{[], _∷_, _++_};
 ghost use lib.ListN.{length};
 ghost use Rattle.listing.specs.Listing.{glyph, decimal, line};
-ghost use Rattle.listing.specs.Text.{Put};
+ghost use Rattle.listing.specs.Inner.{Put};
 use systems::Codes;
 
 // Puts a word.

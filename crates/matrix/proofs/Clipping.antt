@@ -17,17 +17,17 @@ use Rattle.exact.proofs.Difference.{sub-pos, sub-neg}
 use Rattle.systems.specs.declared.Matrix.{Matrix}
 use Rattle.systems.specs.declared.Range.{Range}
 use Rattle.matrix.specs.declared.Words.{Words}
-use Rattle.matrix.specs.Triples.{redOf, greenOf, blueOf, whole, clipped, beyond, codesAt}
+use Rattle.matrix.specs.Triples.{redOf, greenOf, blueOf, natural, clipped, beyond, codesAt}
 use Rattle.matrix.specs.Inner.{NominalCodes}
 
-inside : (v : ℤ) (low high : ℕ) → ltZ v (pos low) ≡ false → ltZ (pos high) v ≡ false → (low ≤ whole v) × (whole v ≤ high)
+inside : (v : ℤ) (low high : ℕ) → ltZ v (pos low) ≡ false → ltZ (pos high) v ≡ false → (low ≤ natural v) × (natural v ≤ high)
 inside (pos n) low high l h = (ltb-false n low l, ltb-false high n h)
 inside (negsuc n) low high l h = absurd (subst T l tt)
 
 -- ---- clipped and counted by the two tests
 pub clipped-by : (n : Range) (v : ℤ) (l h : Bool) → ltZ v (pos (n .low)) ≡ l → ltZ (pos (n .high)) v ≡ h
-    → elim l [ true ↦ n .low | false ↦ elim h [ true ↦ n .high | false ↦ whole v ] ] ≡ clipped n v
-clipped-by n v l h p q = sym (λ i. elim (p i) [ true ↦ n .low | false ↦ elim (q i) [ true ↦ n .high | false ↦ whole v ] ])
+    → elim l [ true ↦ n .low | false ↦ elim h [ true ↦ n .high | false ↦ natural v ] ] ≡ clipped n v
+clipped-by n v l h p q = sym (λ i. elim (p i) [ true ↦ n .low | false ↦ elim (q i) [ true ↦ n .high | false ↦ natural v ] ])
 
 -- a component that is in the range is its own code
 pub natural-inside : (n : Range) (v : ℤ) → ltZ v (pos (n .low)) ≡ false → ltZ (pos (n .high)) v ≡ false → T (nonNeg v) × (natAbs v ≤ n .high) × (natAbs v ≡ clipped n v)
@@ -64,7 +64,7 @@ clipped-within : (n : Range) (v : ℤ) → n .low ≤ n .high → (n .low ≤ cl
 clipped-within n v h = by-tests (ltZ v (pos (n .low))) (ltZ (pos (n .high)) v) refl refl
   where
     by-tests : (l t : Bool) → ltZ v (pos (n .low)) ≡ l → ltZ (pos (n .high)) v ≡ t →
-        let k : ℕ = elim l [ true ↦ n .low | false ↦ elim t [ true ↦ n .high | false ↦ whole v ] ] in
+        let k : ℕ = elim l [ true ↦ n .low | false ↦ elim t [ true ↦ n .high | false ↦ natural v ] ] in
         (n .low ≤ k) × (k ≤ n .high)
     by-tests true t e f = (le-refl (n .low), h)
     by-tests false true e f = (h, le-refl (n .high))
@@ -119,4 +119,4 @@ pub kept-whole : (n : Range) (v : ℤ) (d : ℕ) → n .low ≤ d → d ≤ n .h
 kept-whole n v d l h e =
     let low : ltZ v (pos (n .low)) ≡ false = ap (λ (z : ℤ). ltZ z (pos (n .low))) e ∙ le-ltb d (n .low) l in
     let high : ltZ (pos (n .high)) v ≡ false = ap (λ (z : ℤ). ltZ (pos (n .high)) z) e ∙ le-ltb (n .high) d h in
-    (sym (clipped-by n v false false low high) ∙ ap whole e, sym (beyond-by n v false false low high))
+    (sym (clipped-by n v false false low high) ∙ ap natural e, sym (beyond-by n v false false low high))

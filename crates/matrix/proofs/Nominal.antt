@@ -17,7 +17,7 @@ use Rattle.systems.specs.declared.Matrix.the-variants.{Bt709, Bt2020}
 use Rattle.systems.specs.declared.System.{System}
 use Rattle.systems.specs.Systems.{matrix, scale, kr, kg, kb, nominal, allWithin, timing}
 use Rattle.systems.proofs.Scales.{scale-range}
-use Rattle.matrix.specs.Triples.{weighted, luma, cbOf, crOf, whole, wordsAt}
+use Rattle.matrix.specs.Triples.{weighted, luma, cbOf, crOf, natural, wordsAt}
 use Rattle.matrix.specs.Inner.{NominalCodes, NominalWords}
 use Rattle.matrix.proofs.Fractions.{luma-rounds, difference-rounds}
 use Rattle.matrix.proofs.Tested.{nominal-codes}
@@ -84,7 +84,7 @@ words-of Bt2020 s c n =
 
 pub words-are : (x : Matrix) (s : ℕ) (c : Codes) (v : WordsOf x s c) → wordsAt x s c ≡ record { y = v .y .value; cb = v .cb .value; cr = v .cr .value }
 unfolding wordsAt
-words-are x s c v = λ i. record { y = whole (v .y .is i); cb = whole (v .cb .is i); cr = whole (v .cr .is i) }
+words-are x s c v = λ i. record { y = natural (v .y .is i); cb = natural (v .cb .is i); cr = natural (v .cr .is i) }
 
 module _ (x : Matrix) (s : ℕ) (c : Codes) (n : NominalCodes s c) where
   pub words-nominal : NominalWords s (wordsAt x s c)

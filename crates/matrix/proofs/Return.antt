@@ -14,7 +14,7 @@ use Rattle.systems.specs.declared.Matrix.{Matrix}
 use Rattle.systems.specs.declared.Matrix.the-variants.{Bt709, Bt2020}
 use Rattle.systems.specs.Systems.{kr, kb}
 use Rattle.matrix.specs.declared.Words.{Words}
-use Rattle.matrix.specs.Triples.{weighted, whole, primary, signed, redOf, greenOf, blueOf, wordsAt, codesAt}
+use Rattle.matrix.specs.Triples.{weighted, natural, primary, signed, redOf, greenOf, blueOf, wordsAt, codesAt}
 use Rattle.matrix.specs.Inner.{NominalCodes}
 use Rattle.matrix.proofs.Fractions.{luma-rounds, difference-rounds, primary-rounds, green-rounds}
 use Rattle.matrix.proofs.Nominal.{divisors, Word, WordsOf, words-of, words-are}
@@ -39,12 +39,12 @@ green-near Bt709 s c v = let g = green-rounds Bt709 s (words Bt709 s c v) (lit< 
 green-near Bt2020 s c v = let g = green-rounds Bt2020 s (words Bt2020 s c v) (lit< tt) in off (c .g) g (omega arith) (omega arith)
 
 -- each component of c is off that of d by at most one code
-pub record WithinOne (c d : Codes) : Type 0 where
+pub record CodesWithinOne (c d : Codes) : Type 0 where
   pub r : (c .r ≤ d .r + 1) × (d .r ≤ c .r + 1)
   pub g : (c .g ≤ d .g + 1) × (d .g ≤ c .g + 1)
   pub b : (c .b ≤ d .b + 1) × (d .b ≤ c .b + 1)
 
-codes-near : (x : Matrix) (s : ℕ) (c : Codes) → NominalCodes s c → (v : WordsOf x s c) → WithinOne (codesAt x s (words x s c v) .codes) c
+codes-near : (x : Matrix) (s : ℕ) (c : Codes) → NominalCodes s c → (v : WordsOf x s c) → CodesWithinOne (codesAt x s (words x s c v) .codes) c
 unfolding codesAt
 codes-near x s c n v = record {
   r = clipped-nearer (nominalAt s) _ (c .r) (n .r-low) (n .r-high) (primary-near s (kr x) (c .r) (weighted x c) (v .y) (v .cr));
@@ -52,7 +52,7 @@ codes-near x s c n v = record {
   b = clipped-nearer (nominalAt s) _ (c .b) (n .b-low) (n .b-high) (primary-near s (kb x) (c .b) (weighted x c) (v .y) (v .cb));
 }
 
-pub codes-return-within-one : (x : Matrix) (s : ℕ) (c : Codes) → NominalCodes s c → WithinOne (codesAt x s (wordsAt x s c) .codes) c
+pub codes-return-within-one : (x : Matrix) (s : ℕ) (c : Codes) → NominalCodes s c → CodesWithinOne (codesAt x s (wordsAt x s c) .codes) c
 codes-return-within-one x s c n =
     let v = words-of x s c n in
     rw (words-are x s c v) (codes-near x s c n v)
@@ -84,7 +84,7 @@ grey-words x s d =
     let y = whole-stays d (luma-rounds x (grey d)) (omega arith) in
     let cb = whole-stays (128 * s) (difference-rounds x (128 * s) (kb x) d (grey d) (divisors x .cb)) (omega arith) in
     let cr = whole-stays (128 * s) (difference-rounds x (128 * s) (kr x) d (grey d) (divisors x .cr)) (omega arith) in
-    λ i. record { y = whole (y i); cb = whole (cb i); cr = whole (cr i) }
+    λ i. record { y = natural (y i); cb = natural (cb i); cr = natural (cr i) }
 
 grey-codes : (x : Matrix) (s d : ℕ) → 16 * s ≤ d → d ≤ 235 * s → codesAt x s (greyWords s d) ≡ record { codes = grey d; count = 0 }
 unfolding codesAt

@@ -43,9 +43,9 @@ abbrev pub crOf : Matrix → ℕ → Codes → Ratio
 crOf x s c = difference x (128 * s) (kr x) (c .r) c
 
 -- a whole number that is not below 0
-abbrev pub whole : ℤ → ℕ
-whole (pos n) = n
-whole (negsuc n) = 0
+abbrev pub natural : ℤ → ℕ
+natural (pos n) = n
+natural (negsuc n) = 0
 
 -- Y', Cb and Cr of a code triple
 abbrev pub encodedAt : Matrix → ℕ → Codes → Unlimited
@@ -53,7 +53,7 @@ encodedAt x s c = record { y = rounded (luma x c); cb = rounded (cbOf x s c); cr
 
 -- as words, where none is below 0
 abbrev pub worded : Unlimited → Words
-worded v = record { y = whole (v .y); cb = whole (v .cb); cr = whole (v .cr) }
+worded v = record { y = natural (v .y); cb = natural (v .cb); cr = natural (v .cr) }
 
 -- the words of a triple of nominal codes
 unfoldable pub wordsAt : Matrix → ℕ → Codes → Words
@@ -82,7 +82,7 @@ greenOf x s w = record {
 
 -- a component brought to the nearer end of a range where it is beyond it, and whether it was
 abbrev pub clipped : Range → ℤ → ℕ
-clipped r v = elim (ltZ v (pos (r .low))) [ true ↦ r .low | false ↦ elim (ltZ (pos (r .high)) v) [ true ↦ r .high | false ↦ whole v ] ]
+clipped r v = elim (ltZ v (pos (r .low))) [ true ↦ r .low | false ↦ elim (ltZ (pos (r .high)) v) [ true ↦ r .high | false ↦ natural v ] ]
 
 abbrev pub beyond : Range → ℤ → ℕ
 beyond r v = elim (ltZ v (pos (r .low))) [ true ↦ 1 | false ↦ elim (ltZ (pos (r .high)) v) [ true ↦ 1 | false ↦ 0 ] ]
@@ -108,10 +108,10 @@ abbrev pub codesOfWords : ℕ → Words → Outcome Clipped
 codesOfWords n w = named n and-then λ (y : System). require (wordsWithin y w) 6 (accepted (codesAt (matrix y) (scale y) w))
 
 -- what the answers say
-abbrev pub toldWords : Encoded → Outcome Words
-toldWords (encoded.Words w) = accepted w
-toldWords (encoded.Refused r) = refused (refusal r)
+abbrev pub wordsOutcome : Encoded → Outcome Words
+wordsOutcome (encoded.Words w) = accepted w
+wordsOutcome (encoded.Refused r) = refused (refusal r)
 
-abbrev pub toldCodes : Decoded → Outcome Clipped
-toldCodes (decoded.Codes c) = accepted c
-toldCodes (decoded.Refused r) = refused (refusal r)
+abbrev pub codesOutcome : Decoded → Outcome Clipped
+codesOutcome (decoded.Codes c) = accepted c
+codesOutcome (decoded.Refused r) = refused (refusal r)

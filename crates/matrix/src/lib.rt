@@ -12,7 +12,7 @@ ghost use lib.Signed.{_<ℤ_};
 ghost use Rattle.exact.specs.Signed.{rounded};
 ghost use Rattle.systems.specs.declared.Matrix.the-variants.{Bt709, Bt2020};
 ghost use Rattle.systems.specs.Systems.{matrix, scale};
-ghost use Rattle.matrix.specs.Triples.{encodedAt, worded, wordsAt, codesAt, wordsOfCodes, codesOfWords, toldWords, toldCodes, wordsWithin, clipped, beyond};
+ghost use Rattle.matrix.specs.Triples.{encodedAt, worded, wordsAt, codesAt, wordsOfCodes, codesOfWords, wordsOutcome, codesOutcome, wordsWithin, clipped, beyond};
 ghost use Rattle.matrix.specs.Inner.{triple, NominalCodes, TwelveBitCodes, TwelveBitWords, WordSized, Small, dotted, encodingRows, colourDifference, decodingRows, unclippedAt, fixed, fromFixed, InOrder};
 
 // Y', Cb and Cr words of a sample.
@@ -79,7 +79,7 @@ const PRIMARY_ERROR: i64 = 1 << 13;
 
 // The words of a code triple; refused with 1, then 6.
 pub fn words_of_codes(system: u32, codes: Codes) -> Encoded
-    ensures { λ r. ⌜ toldWords r ≡ wordsOfCodes system codes ⌝ }
+    ensures { λ r. ⌜ wordsOutcome r ≡ wordsOfCodes system codes ⌝ }
 {
     match System::from_number(system) {
         Named::Known(y) => {
@@ -96,7 +96,7 @@ pub fn words_of_codes(system: u32, codes: Codes) -> Encoded
 
 // The codes of a word triple; refused with 1, then 6.
 pub fn codes_of_words(system: u32, words: Words) -> Decoded
-    ensures { λ r. ⌜ toldCodes r ≡ codesOfWords system words ⌝ }
+    ensures { λ r. ⌜ codesOutcome r ≡ codesOfWords system words ⌝ }
 {
     match System::from_number(system) {
         Named::Known(y) => {

@@ -6,7 +6,7 @@ use mathlib.Core.Bool.{Bool, true, false, not, _&&_}
 use lib.Dec.{ltb, leb, eqb}
 use lib.ListN.{length}
 use borrow.Author.Tests.{le-ltb, lt-ltb, le-leb, lt-leb, leb-true, leb-false, ltb-true, ltb-false}
-use Rattle.picture.specs.Book.{Call, opens, rows, closes, State, fresh, opened, closed, Heard, accepted, refused, among, accepts, choose, hears}
+use Rattle.picture.specs.Book.{Call, opens, rows, closes, State, fresh, opened, closed, Answer, accepted, refused, among, accepts, choose, answers}
 
 pub split : {P : Type 0} (b : Bool) → (b ≡ true → P) → (b ≡ false → P) → P
 split true f g = f refl
@@ -19,7 +19,7 @@ pub below-is-not-at-least : (a b : ℕ) → ltb a b ≡ not (leb b a)
 below-is-not-at-least a b = split (ltb a b) (λ t. simp (t, lt-leb b a (ltb-true a b t))) (λ t. simp (t, le-leb b a (ltb-false a b t)))
 
 -- whether the book accepts a call, and what its tables say of it: both accept, or both refuse, with a number that is not 0
-pub data Agree : Bool → Heard → Type 0 where
+pub data Agree : Bool → Answer → Type 0 where
   both-accept : Agree true accepted
   both-refuse : (n : ℕ) → Agree false (refused (suc n))
 
@@ -33,7 +33,7 @@ one-test : (a : Bool) (n : ℕ) → Agree a (choose (not a) (refused (suc n)) ac
 one-test false n = both-refuse n
 one-test true n = both-accept
 
-pub accepts-unless-a-condition-holds : (st : State) (c : Call) → Agree (accepts st c) (hears st c)
+pub accepts-unless-a-condition-holds : (st : State) (c : Call) → Agree (accepts st c) (answers st c)
 accepts-unless-a-condition-holds fresh (opens n w h) = three-tests (among 1 4 n) (among 1 7680 w) (among 1 4320 h) 0 1 2
 accepts-unless-a-condition-holds (opened s) (opens n w h) = both-refuse 20
 accepts-unless-a-condition-holds closed (opens n w h) = three-tests (among 1 4 n) (among 1 7680 w) (among 1 4320 h) 0 1 2

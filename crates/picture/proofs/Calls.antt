@@ -5,7 +5,7 @@ use mathlib.Core.List.{List, [], _∷_}
 use lib.ListN.{length, getD}
 use Rattle.exact.specs.Outcome.{Outcome}
 use Rattle.curve.specs.Curve.{fullLight}
-use Rattle.picture.specs.Book.{Call, opens, rows, closes, Heard}
+use Rattle.picture.specs.Book.{Call, opens, rows, closes, Answer}
 
 -- what a reading tells of a block: its system's number, its count and its row number
 pub record Label : Type 0 where
@@ -19,18 +19,18 @@ pub record Card : Type 1 where
   pub Picture : Type 0
   -- a new one
   pub New : Picture → Type 0
-  -- a picture, system, width and height; what was heard, and the picture that the next call is given
-  pub Open : Picture → ℕ → ℕ → ℕ → Heard → Picture → Type 0
-  -- a picture, lights and a lent buffer; what was heard, the buffer as it was left, and the next picture
-  pub Row : Picture → List ℕ → List ℕ → Heard → List ℕ → Picture → Type 0
-  -- a picture; what was heard, and the next picture
-  pub Close : Picture → Heard → Picture → Type 0
+  -- a picture, system, width and height; the answer, and the picture that the next call is given
+  pub Open : Picture → ℕ → ℕ → ℕ → Answer → Picture → Type 0
+  -- a picture, lights and a lent buffer; the answer, the buffer as it was left, and the next picture
+  pub Row : Picture → List ℕ → List ℕ → Answer → List ℕ → Picture → Type 0
+  -- a picture; the answer, and the next picture
+  pub Close : Picture → Answer → Picture → Type 0
   -- a block's bytes and a lent slice; what was told, and the slice as it was left
   pub Read : List ℕ → List ℕ → Outcome Label → List ℕ → Type 0
 
--- a buffer that was lent to a row: what was heard of the call, and its bytes before and after
+-- a buffer that was lent to a row: the answer to the call, and its bytes before and after
 pub record Lent : Type 0 where
-  pub heard : Heard
+  pub answer : Answer
   pub before : List ℕ
   pub after : List ℕ
 
@@ -38,19 +38,19 @@ pub record Lent : Type 0 where
 abbrev pub Lights : List ℕ → Type 0
 Lights lights = (j : ℕ) → getD lights j 0 ≤ fullLight
 
--- from the picture p the calls cs were made, each on the picture that the one before it gave, and the last gave q; hs was heard, and ls are the buffers lent to the rows
-pub data Ran (card : Card) : card .Picture → List Call → List Heard → List Lent → card .Picture → Type 0 where
+-- from the picture p the calls cs were made, each on the picture that the one before it gave, and the last gave q; ans are the answers, and ls the buffers lent to the rows
+pub data Ran (card : Card) : card .Picture → List Call → List Answer → List Lent → card .Picture → Type 0 where
   ends : {p : card .Picture} → Ran card p [] [] [] p
-  after-open : {p p′ q : card .Picture} {n w h : ℕ} {heard : Heard} {cs : List Call} {hs : List Heard} {ls : List Lent}
-      → card .Open p n w h heard p′ → Ran card p′ cs hs ls q → Ran card p (opens n w h ∷ cs) (heard ∷ hs) ls q
-  after-row : {p p′ q : card .Picture} {lights out out′ : List ℕ} {heard : Heard} {cs : List Call} {hs : List Heard} {ls : List Lent}
-      → Lights lights → card .Row p lights out heard out′ p′ → Ran card p′ cs hs ls q
-      → Ran card p (rows lights (length out) ∷ cs) (heard ∷ hs) (record { heard = heard; before = out; after = out′ } ∷ ls) q
-  after-close : {p p′ q : card .Picture} {heard : Heard} {cs : List Call} {hs : List Heard} {ls : List Lent}
-      → card .Close p heard p′ → Ran card p′ cs hs ls q → Ran card p (closes ∷ cs) (heard ∷ hs) ls q
+  after-open : {p p′ q : card .Picture} {n w h : ℕ} {answer : Answer} {cs : List Call} {ans : List Answer} {ls : List Lent}
+      → card .Open p n w h answer p′ → Ran card p′ cs ans ls q → Ran card p (opens n w h ∷ cs) (answer ∷ ans) ls q
+  after-row : {p p′ q : card .Picture} {lights out out′ : List ℕ} {answer : Answer} {cs : List Call} {ans : List Answer} {ls : List Lent}
+      → Lights lights → card .Row p lights out answer out′ p′ → Ran card p′ cs ans ls q
+      → Ran card p (rows lights (length out) ∷ cs) (answer ∷ ans) (record { answer = answer; before = out; after = out′ } ∷ ls) q
+  after-close : {p p′ q : card .Picture} {answer : Answer} {cs : List Call} {ans : List Answer} {ls : List Lent}
+      → card .Close p answer p′ → Ran card p′ cs ans ls q → Ran card p (closes ∷ cs) (answer ∷ ans) ls q
 
 -- from a fresh picture
-pub record History (card : Card) (cs : List Call) (hs : List Heard) (ls : List Lent) (q : card .Picture) : Type 0 where
+pub record History (card : Card) (cs : List Call) (ans : List Answer) (ls : List Lent) (q : card .Picture) : Type 0 where
   pub start : card .Picture
   pub made : card .New start
-  pub ran : Ran card start cs hs ls q
+  pub ran : Ran card start cs ans ls q

@@ -9,12 +9,12 @@ use Rattle.exact.specs.Outcome.{Outcome}
 use Rattle.systems.specs.Systems.{number}
 use Rattle.block.specs.declared.Header.{Header}
 use Rattle.block.specs.declared.BlockRead.{BlockRead}
-use Rattle.block.specs.Read.{toldHeader}
+use Rattle.block.specs.Read.{headerOutcome}
 use Rattle.block.proofs.read_block.Reads as read-call
 use Rattle.picture.specs.declared.Picture.{Picture}
 use Rattle.picture.specs.declared.Change.{Change}
-use Rattle.picture.specs.Picture.{toldPicture}
-use Rattle.picture.specs.Book.{Heard, accepted, refused}
+use Rattle.picture.specs.Picture.{pictureOutcome}
+use Rattle.picture.specs.Book.{Answer, accepted, refused}
 use Rattle.picture.proofs.Picture.new.Reads as new-call
 use Rattle.picture.proofs.Picture.open.Reads as open-call
 use Rattle.picture.proofs.Picture.row.Reads as row-call
@@ -22,9 +22,9 @@ use Rattle.picture.proofs.Picture.close.Reads as close-call
 use Rattle.picture.proofs.Calls.{Label, Card}
 
 -- what the caller hears of a call
-abbrev pub heardOf : Outcome Picture → Heard
-heardOf (outcome.accepted p) = accepted
-heardOf (outcome.refused n) = refused n
+abbrev pub answerOf : Outcome Picture → Answer
+answerOf (outcome.accepted p) = accepted
+answerOf (outcome.refused n) = refused n
 
 -- the picture that the next call is given: what the call returned, or after a refusal what it was given itself
 abbrev pub leads : Picture → Outcome Picture → Picture
@@ -36,21 +36,21 @@ abbrev pub labelOf : Outcome Header → Outcome Label
 labelOf (outcome.accepted h) = outcome.accepted (record { system = number (h .system); samples = h .samples; row = h .row })
 labelOf (outcome.refused n) = outcome.refused n
 
-pub data Opens (p : Picture) (n w h : ℕ) : Heard → Picture → Type 0 where
+pub data Opens (p : Picture) (n w h : ℕ) : Answer → Picture → Type 0 where
   by-open : (r : Change) (p′ : Picture) (n′ w′ h′ : ℕ) → open-call.Post tt (p, (n, (w, (h, tt)))) r (p′, (n′, (w′, (h′, tt))))
-      → Opens p n w h (heardOf (toldPicture r)) (leads p (toldPicture r))
+      → Opens p n w h (answerOf (pictureOutcome r)) (leads p (pictureOutcome r))
 
 -- κs are the lifetimes of the two references, whatever they are
-pub data Rows (p : Picture) : List ℕ → List ℕ → Heard → List ℕ → Picture → Type 0 where
+pub data Rows (p : Picture) : List ℕ → List ℕ → Answer → List ℕ → Picture → Type 0 where
   by-row : (κs : Lfts 2) (lights out lights′ out′ : RefT (List ℕ)) (r : Change) (p′ : Picture) → row-call.Post κs (p, (lights, (out, tt))) r (p′, (lights′, (out′, tt)))
-      → Rows p (now lights) (now out) (heardOf (toldPicture r)) (now out′) (leads p (toldPicture r))
+      → Rows p (now lights) (now out) (answerOf (pictureOutcome r)) (now out′) (leads p (pictureOutcome r))
 
-pub data Closes (p : Picture) : Heard → Picture → Type 0 where
-  by-close : (r : Change) (p′ : Picture) → close-call.Post tt (p, tt) r (p′, tt) → Closes p (heardOf (toldPicture r)) (leads p (toldPicture r))
+pub data Closes (p : Picture) : Answer → Picture → Type 0 where
+  by-close : (r : Change) (p′ : Picture) → close-call.Post tt (p, tt) r (p′, tt) → Closes p (answerOf (pictureOutcome r)) (leads p (pictureOutcome r))
 
 pub data Reads : List ℕ → List ℕ → Outcome Label → List ℕ → Type 0 where
   by-read-block : (κs : Lfts 2) (bytes slice bytes′ slice′ : RefT (List ℕ)) (r : BlockRead) → read-call.Post κs (bytes, (slice, tt)) r (bytes′, (slice′, tt))
-      → Reads (now bytes) (now slice) (labelOf (toldHeader r)) (now slice′)
+      → Reads (now bytes) (now slice) (labelOf (headerOutcome r)) (now slice′)
 
 abbrev pub card : Card
 card = record { Picture = Picture; New = λ p. new-call.Post tt tt p tt; Open = Opens; Row = Rows; Close = Closes; Read = Reads }

@@ -20,7 +20,7 @@ use Rattle.block.specs.Read.{sampleAt}
 use Rattle.picture.specs.declared.Opened.{Opened}
 use Rattle.picture.specs.declared.Phase.{Phase}
 use Rattle.picture.specs.declared.Phase.the-variants.{Fresh, Open, Closed}
-use Rattle.picture.specs.Book.{Call, State, fresh, opened, closed, Entry, Heard, accepted, refused, next, heardFrom, entriesFrom}
+use Rattle.picture.specs.Book.{Call, State, fresh, opened, closed, Entry, Answer, accepted, refused, next, answersFrom, entriesFrom}
 use Rattle.picture.proofs.Calls.{Label, Card, Lent}
 
 abbrev pub WithinOne : ℕ → ℕ → Type 0
@@ -85,18 +85,18 @@ pub data Blocks (card : Card) : List Lent → List Entry → Type 0 where
       → Blocks card ls es → Blocks card (l ∷ ls) (e ∷ es)
 
 -- the buffers of the accepted rows
-abbrev pub keptBy : Heard → Lent → List Lent
-keptBy accepted l = l ∷ []
-keptBy (refused n) l = []
+abbrev pub ifAccepted : Answer → Lent → List Lent
+ifAccepted accepted l = l ∷ []
+ifAccepted (refused n) l = []
 
-unfoldable pub kept : List Lent → List Lent
-kept [] = []
-kept (l ∷ ls) = keptBy (l .heard) l ++ kept ls
+unfoldable pub acceptedRows : List Lent → List Lent
+acceptedRows [] = []
+acceptedRows (l ∷ ls) = ifAccepted (l .answer) l ++ acceptedRows ls
 
 -- the refused rows left their buffers as they were
 unfoldable pub Unchanged : List Lent → Type 0
 Unchanged [] = Unit {0}
-Unchanged (l ∷ ls) = ((n : ℕ) → l .heard ≡ refused n → l .after ≡ l .before) × Unchanged ls
+Unchanged (l ∷ ls) = ((n : ℕ) → l .answer ≡ refused n → l .after ≡ l .before) × Unchanged ls
 
 -- the book's state at a picture
 abbrev pub stateOf : Phase → State
@@ -110,14 +110,14 @@ stateFrom st [] = st
 stateFrom st (c ∷ cs) = stateFrom (next st c) cs
 
 -- from the book's state st: what a list of calls on a card comes to, where the last call left its picture at the state last
-pub record Demanded (card : Card) (st : State) (cs : List Call) (hs : List Heard) (ls : List Lent) (last : State) : Type 0 where
+pub record Demanded (card : Card) (st : State) (cs : List Call) (ans : List Answer) (ls : List Lent) (last : State) : Type 0 where
   -- exactly the calls that the row book accepts were accepted, and the rest were refused with its numbers
-  pub heard : hs ≡ heardFrom st cs
+  pub answer : ans ≡ answersFrom st cs
   -- a refused call changed neither the picture, which is where the book is, nor a buffer
   pub state : last ≡ stateFrom st cs
   pub unchanged : Unchanged ls
   -- the blocks of the accepted rows, in order, are those of the book's entries
-  pub blocks : Blocks card (kept ls) (entriesFrom st cs)
+  pub blocks : Blocks card (acceptedRows ls) (entriesFrom st cs)
 
 -- a width of 1 to 7680, a height of 1 to 4320, and no more rows than the height
 pub record Sized (o : Opened) : Type 0 where

@@ -21,22 +21,22 @@ use Rattle.picture.specs.declared.Phase.{Phase}
 use Rattle.picture.specs.declared.Phase.the-variants.{Fresh, Open, Closed}
 use Rattle.picture.specs.declared.Picture.{Picture}
 use Rattle.picture.specs.Picture.{at, opening, rowOpen, rowFrom, rowing, bufferBy, bufferFrom, bufferAfter, closing}
-use Rattle.picture.specs.Book.{Call, opens, rows, closes, State, fresh, Heard, accepted, refused, Entry, accepts, enters, choose, heardFrom, entriesFrom}
+use Rattle.picture.specs.Book.{Call, opens, rows, closes, State, fresh, Answer, accepted, refused, Entry, accepts, enters, choose, answersFrom, entriesFrom}
 use Rattle.picture.proofs.Agreement.{split}
 use Rattle.picture.proofs.Calls.{Label, Card, Lent, Lights, Ran, ends, after-open, after-row, after-close, History}
-use Rattle.picture.proofs.Card.{heardOf, labelOf, Opens, by-open, Rows, by-row, Closes, by-close, Reads, by-read-block, card}
-use Rattle.picture.proofs.Claims.{ReadsBack, Blocks, none, one, keptBy, kept, Unchanged, stateOf, stateFrom, Demanded, Proper}
+use Rattle.picture.proofs.Card.{answerOf, labelOf, Opens, by-open, Rows, by-row, Closes, by-close, Reads, by-read-block, card}
+use Rattle.picture.proofs.Claims.{ReadsBack, Blocks, none, one, ifAccepted, acceptedRows, Unchanged, stateOf, stateFrom, Demanded, Proper}
 use Rattle.picture.proofs.Faithful.{Follows, Faithful}
 use Rattle.picture.proofs.Rows.{reads-back}
 use Rattle.picture.proofs.Steps.{InStep, open-step, row-step, close-step}
 
 -- ---- what a row leaves in its buffer
 
-refused-leaves : (o : Opened) (lights out : List ℕ) (k : Outcome Picture) (n : ℕ) → heardOf k ≡ refused n → bufferBy k o lights out ≡ out
+refused-leaves : (o : Opened) (lights out : List ℕ) (k : Outcome Picture) (n : ℕ) → answerOf k ≡ refused n → bufferBy k o lights out ≡ out
 refused-leaves o lights out (outcome.accepted q) n e = let z : _≡_ {A = ℕ} 0 1 = cc in absurd (omega arith)
 refused-leaves o lights out (outcome.refused m) n e = refl
 
-row-leaves : (f : Phase) (lights out : List ℕ) (n : ℕ) → heardOf (rowFrom f lights (length out)) ≡ refused n → bufferFrom f lights out ≡ out
+row-leaves : (f : Phase) (lights out : List ℕ) (n : ℕ) → answerOf (rowFrom f lights (length out)) ≡ refused n → bufferFrom f lights out ≡ out
 row-leaves Fresh lights out n e = refl
 row-leaves (Open o) lights out n e = refused-leaves o lights out (rowOpen o lights (length out)) n e
 row-leaves Closed lights out n e = refl
@@ -44,12 +44,12 @@ row-leaves Closed lights out n e = refl
 abbrev entered : State → Call → List Entry
 entered st c = choose (accepts st c) (enters st c) []
 
--- the buffer of a row, and what is heard of it
+-- the buffer of a row, and the answer
 abbrev lent : Phase → List ℕ → List ℕ → Lent
-lent f lights out = record { heard = heardOf (rowFrom f lights (length out)); before = out; after = bufferFrom f lights out }
+lent f lights out = record { answer = answerOf (rowFrom f lights (length out)); before = out; after = bufferFrom f lights out }
 
 row-keeps : {card : Card} → Faithful card → (f : Phase) (lights out : List ℕ) → Proper f → Lights lights
-    → Blocks card (keptBy (lent f lights out .heard) (lent f lights out)) (entered (stateOf f) (rows lights (length out)))
+    → Blocks card (ifAccepted (lent f lights out .answer) (lent f lights out)) (entered (stateOf f) (rows lights (length out)))
 unfolding rowOpen
 row-keeps does Fresh lights out g l = none
 row-keeps {card} does (Open o) lights out g l =
@@ -76,18 +76,18 @@ blocks-append none y = y
 blocks-append (one r s x) y = one r s (blocks-append x y)
 
 -- what the calls cs come to that lead from the picture p to q, which calls can reach
-pub record After (card : Card) (p : Picture) (cs : List Call) (hs : List Heard) (ls : List Lent) (q : Picture) : Type 0 where
-  pub demanded : Demanded card (stateOf (p .phase)) cs hs ls (stateOf (q .phase))
+pub record After (card : Card) (p : Picture) (cs : List Call) (ans : List Answer) (ls : List Lent) (q : Picture) : Type 0 where
+  pub demanded : Demanded card (stateOf (p .phase)) cs ans ls (stateOf (q .phase))
   pub proper : Proper (q .phase)
 
-module _ {card : Card} {p p′ q : Picture} {c : Call} {heard : Heard} {cs : List Call} {hs : List Heard} {ls : List Lent} (i : InStep p c heard p′) where
+module _ {card : Card} {p p′ q : Picture} {c : Call} {answer : Answer} {cs : List Call} {ans : List Answer} {ls : List Lent} (i : InStep p c answer p′) where
   -- with the buffers ms in all
-  then : {ms : List Lent} → Unchanged ms → Blocks card (kept ms) (entered (stateOf (p .phase)) c ++ entriesFrom (stateOf (p′ .phase)) cs)
-      → After card p′ cs hs ls q → After card p (c ∷ cs) (heard ∷ hs) ms q
-  unfolding heardFrom entriesFrom stateFrom
+  then : {ms : List Lent} → Unchanged ms → Blocks card (acceptedRows ms) (entered (stateOf (p .phase)) c ++ entriesFrom (stateOf (p′ .phase)) cs)
+      → After card p′ cs ans ls q → After card p (c ∷ cs) (answer ∷ ans) ms q
+  unfolding answersFrom entriesFrom stateFrom
   then u b k = record {
     demanded = record {
-      heard = rw (← i .leads-on, ← i .same) (ap (λ (l : List Heard). heard ∷ l) (k .demanded .heard));
+      answer = rw (← i .leads-on, ← i .same) (ap (λ (l : List Answer). answer ∷ l) (k .demanded .answer));
       state = rw (← i .leads-on) (k .demanded .state);
       unchanged = u;
       blocks = rw (← i .leads-on) b;
@@ -96,12 +96,12 @@ module _ {card : Card} {p p′ q : Picture} {c : Call} {heard : Heard} {cs : Lis
   }
 
   -- an open or a close: no buffer, no entry
-  call-then : entered (stateOf (p .phase)) c ≡ [] → After card p′ cs hs ls q → After card p (c ∷ cs) (heard ∷ hs) ls q
+  call-then : entered (stateOf (p .phase)) c ≡ [] → After card p′ cs ans ls q → After card p (c ∷ cs) (answer ∷ ans) ls q
   call-then e k = then (k .demanded .unchanged) (rw e (k .demanded .blocks)) k
 
-  row-then : {l : Lent} → ((n : ℕ) → l .heard ≡ refused n → l .after ≡ l .before) → Blocks card (keptBy (l .heard) l) (entered (stateOf (p .phase)) c)
-      → After card p′ cs hs ls q → After card p (c ∷ cs) (heard ∷ hs) (l ∷ ls) q
-  unfolding kept Unchanged
+  row-then : {l : Lent} → ((n : ℕ) → l .answer ≡ refused n → l .after ≡ l .before) → Blocks card (ifAccepted (l .answer) l) (entered (stateOf (p .phase)) c)
+      → After card p′ cs ans ls q → After card p (c ∷ cs) (answer ∷ ans) (l ∷ ls) q
+  unfolding acceptedRows Unchanged
   row-then u b k = then (u, k .demanded .unchanged) (blocks-append b (k .demanded .blocks)) k
 
 no-entry : (t : Bool) → choose {A = List Entry} t [] [] ≡ []
@@ -115,43 +115,43 @@ module _ {card : Card} (does : Faithful card) where
   at-phase k = does .picture k .phase
 
   -- from any picture that calls can reach
-  pub run : {k l : card .Picture} {cs : List Call} {hs : List Heard} {ls : List Lent} → Proper (at-phase k) → Ran card k cs hs ls l → After card (does .picture k) cs hs ls (does .picture l)
-  unfolding heardFrom entriesFrom stateFrom kept Unchanged
-  run g ends = record { demanded = record { heard = refl; state = refl; unchanged = tt; blocks = none }; proper = g }
-  run {k} g (after-open {p′ = k′} {n = n} {w = w} {h = h} {heard = heard} call rest) =
+  pub run : {k l : card .Picture} {cs : List Call} {ans : List Answer} {ls : List Lent} → Proper (at-phase k) → Ran card k cs ans ls l → After card (does .picture k) cs ans ls (does .picture l)
+  unfolding answersFrom entriesFrom stateFrom acceptedRows Unchanged
+  run g ends = record { demanded = record { answer = refl; state = refl; unchanged = tt; blocks = none }; proper = g }
+  run {k} g (after-open {p′ = k′} {n = n} {w = w} {h = h} {answer = answer} call rest) =
       let s = does .opens call in
-      let i : InStep (does .picture k) (opens n w h) heard (does .picture k′) = rw (s .same, s .next) (open-step (at-phase k) n w h) in
+      let i : InStep (does .picture k) (opens n w h) answer (does .picture k′) = rw (s .same, s .next) (open-step (at-phase k) n w h) in
       call-then i (no-entry (accepts (stateOf (at-phase k)) (opens n w h))) (run (i .stays g) rest)
-  run {k} g (after-row {p′ = k′} {lights = lights} {out = out} {out′ = out′} {heard = heard} lit call rest) =
+  run {k} g (after-row {p′ = k′} {lights = lights} {out = out} {out′ = out′} {answer = answer} lit call rest) =
       let s = does .rows call in
       let c : Call = rows lights (length out) in
-      let i : InStep (does .picture k) c heard (does .picture k′) = rw (s .0 .same, s .0 .next) (row-step (at-phase k) lights (length out)) in
-      let u : (n : ℕ) → heard ≡ refused n → out′ ≡ out = rw (s .0 .same, s .1) (row-leaves (at-phase k) lights out) in
-      let b : Blocks card (keptBy heard (record { heard = heard; before = out; after = out′ })) (entered (stateOf (at-phase k)) c) = rw (s .0 .same, s .1) (row-keeps does (at-phase k) lights out g lit) in
+      let i : InStep (does .picture k) c answer (does .picture k′) = rw (s .0 .same, s .0 .next) (row-step (at-phase k) lights (length out)) in
+      let u : (n : ℕ) → answer ≡ refused n → out′ ≡ out = rw (s .0 .same, s .1) (row-leaves (at-phase k) lights out) in
+      let b : Blocks card (ifAccepted answer (record { answer = answer; before = out; after = out′ })) (entered (stateOf (at-phase k)) c) = rw (s .0 .same, s .1) (row-keeps does (at-phase k) lights out g lit) in
       row-then i u b (run (i .stays g) rest)
-  run {k} g (after-close {p′ = k′} {heard = heard} call rest) =
+  run {k} g (after-close {p′ = k′} {answer = answer} call rest) =
       let s = does .closes call in
-      let i : InStep (does .picture k) closes heard (does .picture k′) = rw (s .same, s .next) (close-step (at-phase k)) in
+      let i : InStep (does .picture k) closes answer (does .picture k′) = rw (s .same, s .next) (close-step (at-phase k)) in
       call-then i (no-entry (accepts (stateOf (at-phase k)) closes)) (run (i .stays g) rest)
 
-  from-fresh : {cs : List Call} {hs : List Heard} {ls : List Lent} {l : card .Picture} → History card cs hs ls l → After card (at Fresh) cs hs ls (does .picture l)
+  from-fresh : {cs : List Call} {ans : List Answer} {ls : List Lent} {l : card .Picture} → History card cs ans ls l → After card (at Fresh) cs ans ls (does .picture l)
   from-fresh s =
       let new = does .news (s .made) in
       rw new at (run (subst (λ (p : Picture). Proper (p .phase)) (sym new) tt) (s .ran))
 
   -- Demand 3, of a card that does what the definitions say
-  pub demanded : {cs : List Call} {hs : List Heard} {ls : List Lent} {l : card .Picture} → History card cs hs ls l → Demanded card fresh cs hs ls (stateOf (at-phase l))
+  pub demanded : {cs : List Call} {ans : List Answer} {ls : List Lent} {l : card .Picture} → History card cs ans ls l → Demanded card fresh cs ans ls (stateOf (at-phase l))
   demanded s = from-fresh s .demanded
 
 -- ---- this crate's card
 
-opens-so : {p p′ : Picture} {n w h : ℕ} {heard : Heard} → Opens p n w h heard p′ → Follows p (opening p n w h) heard p′
+opens-so : {p p′ : Picture} {n w h : ℕ} {answer : Answer} → Opens p n w h answer p′ → Follows p (opening p n w h) answer p′
 opens-so (by-open r _ _ _ _ post) = rw (← post) record { same = refl; next = refl }
 
-rows-so : {p p′ : Picture} {lights out out′ : List ℕ} {heard : Heard} → Rows p lights out heard out′ p′ → Follows p (rowing p lights (length out)) heard p′ × (out′ ≡ bufferAfter p lights out)
+rows-so : {p p′ : Picture} {lights out out′ : List ℕ} {answer : Answer} → Rows p lights out answer out′ p′ → Follows p (rowing p lights (length out)) answer p′ × (out′ ≡ bufferAfter p lights out)
 rows-so (by-row _ _ _ _ _ r _ post) = (rw (← post .0) record { same = refl; next = refl }, post .1)
 
-closes-so : {p p′ : Picture} {heard : Heard} → Closes p heard p′ → Follows p (closing p) heard p′
+closes-so : {p p′ : Picture} {answer : Answer} → Closes p answer p′ → Follows p (closing p) answer p′
 closes-so (by-close r _ post) = rw (← post) record { same = refl; next = refl }
 
 reads-so : {bytes slice left : List ℕ} {r : Outcome Label} → Reads bytes slice r left → (r ≡ labelOf (headerOf bytes (length slice))) × (left ≡ sliceAfter bytes slice)
@@ -168,11 +168,11 @@ faithful = record {
 }
 
 -- Demand 3.
-pub demand-3 : {cs : List Call} {hs : List Heard} {ls : List Lent} {q : Picture} → History card cs hs ls q → Demanded card fresh cs hs ls (stateOf (q .phase))
+pub demand-3 : {cs : List Call} {ans : List Answer} {ls : List Lent} {q : Picture} → History card cs ans ls q → Demanded card fresh cs ans ls (stateOf (q .phase))
 unfolding faithful
 demand-3 s = demanded faithful s
 
 -- no list of calls reaches a picture but these
-pub only-proper : {cs : List Call} {hs : List Heard} {ls : List Lent} {q : Picture} → History card cs hs ls q → Proper (q .phase)
+pub only-proper : {cs : List Call} {ans : List Answer} {ls : List Lent} {q : Picture} → History card cs ans ls q → Proper (q .phase)
 unfolding faithful
 only-proper s = from-fresh faithful s .proper

@@ -9,22 +9,22 @@ use Rattle.block.specs.Read.{headerOf, sliceAfter}
 use Rattle.picture.specs.declared.Phase.the-variants.{Fresh}
 use Rattle.picture.specs.declared.Picture.{Picture}
 use Rattle.picture.specs.Picture.{at, opening, rowing, bufferAfter, closing}
-use Rattle.picture.specs.Book.{Heard}
+use Rattle.picture.specs.Book.{Answer}
 use Rattle.picture.proofs.Calls.{Label, Card}
-use Rattle.picture.proofs.Card.{heardOf, leads, labelOf}
+use Rattle.picture.proofs.Card.{answerOf, leads, labelOf}
 
--- a call on p that comes to o was heard so, and gave the next call the picture p′
-pub record Follows (p : Picture) (o : Outcome Picture) (heard : Heard) (p′ : Picture) : Type 0 where
-  pub same : heard ≡ heardOf o
+-- a call on p that comes to o was answered so, and gave the next call the picture p′
+pub record Follows (p : Picture) (o : Outcome Picture) (answer : Answer) (p′ : Picture) : Type 0 where
+  pub same : answer ≡ answerOf o
   pub next : p′ ≡ leads p o
 
 pub record Faithful (card : Card) : Type 0 where
   -- the picture that a caller's stands for
   pub picture : card .Picture → Picture
   pub news : {k : card .Picture} → card .New k → picture k ≡ at Fresh
-  pub opens : {k k′ : card .Picture} {n w h : ℕ} {heard : Heard} → card .Open k n w h heard k′ → Follows (picture k) (opening (picture k) n w h) heard (picture k′)
-  pub rows : {k k′ : card .Picture} {lights out out′ : List ℕ} {heard : Heard} → card .Row k lights out heard out′ k′
-      → Follows (picture k) (rowing (picture k) lights (length out)) heard (picture k′) × (out′ ≡ bufferAfter (picture k) lights out)
-  pub closes : {k k′ : card .Picture} {heard : Heard} → card .Close k heard k′ → Follows (picture k) (closing (picture k)) heard (picture k′)
+  pub opens : {k k′ : card .Picture} {n w h : ℕ} {answer : Answer} → card .Open k n w h answer k′ → Follows (picture k) (opening (picture k) n w h) answer (picture k′)
+  pub rows : {k k′ : card .Picture} {lights out out′ : List ℕ} {answer : Answer} → card .Row k lights out answer out′ k′
+      → Follows (picture k) (rowing (picture k) lights (length out)) answer (picture k′) × (out′ ≡ bufferAfter (picture k) lights out)
+  pub closes : {k k′ : card .Picture} {answer : Answer} → card .Close k answer k′ → Follows (picture k) (closing (picture k)) answer (picture k′)
   pub reads : {bytes slice left : List ℕ} {r : Outcome Label} → card .Read bytes slice r left
       → (r ≡ labelOf (headerOf bytes (length slice))) × (left ≡ sliceAfter bytes slice)

@@ -8,20 +8,20 @@ use contract.Lifetimes.{Lfts}
 use denote.Ref.{RefT}
 use Rattle.exact.specs.Outcome.{Outcome}
 use Rattle.block.specs.Read.{sliceAfter}
-use Rattle.block.proofs.Tellable.{reading-tellable}
+use Rattle.block.proofs.Answerable.{reading-answerable}
 use Rattle.picture.specs.declared.Phase.the-variants.{Fresh}
 use Rattle.picture.specs.Picture.{at, bufferAfter}
-use Rattle.picture.specs.Book.{Call, opens, rows, closes, Heard}
+use Rattle.picture.specs.Book.{Call, opens, rows, closes, Answer}
 use Rattle.picture.proofs.Calls.{Label, Card, Lent, Lights, Ran, ends, after-open, after-row, after-close, History}
 use Rattle.picture.proofs.Card.{by-open, by-row, by-close, by-read-block, card}
-use Rattle.picture.proofs.Tellable.{answer, block-answer, open-tellable, row-tellable, close-tellable}
+use Rattle.picture.proofs.Answerable.{change-for, read-for, open-answerable, row-answerable, close-answerable}
 
 -- every call on a card comes to something, whatever it is given
 pub record Answering (card : Card) : Type 0 where
   pub news : (p : card .Picture) × card .New p
-  pub opens : (p : card .Picture) (n w h : ℕ) → (heard : Heard) × (p′ : card .Picture) × card .Open p n w h heard p′
-  pub rows : (p : card .Picture) (lights out : List ℕ) → (heard : Heard) × (out′ : List ℕ) × (p′ : card .Picture) × card .Row p lights out heard out′ p′
-  pub closes : (p : card .Picture) → (heard : Heard) × (p′ : card .Picture) × card .Close p heard p′
+  pub opens : (p : card .Picture) (n w h : ℕ) → (answer : Answer) × (p′ : card .Picture) × card .Open p n w h answer p′
+  pub rows : (p : card .Picture) (lights out : List ℕ) → (answer : Answer) × (out′ : List ℕ) × (p′ : card .Picture) × card .Row p lights out answer out′ p′
+  pub closes : (p : card .Picture) → (answer : Answer) × (p′ : card .Picture) × card .Close p answer p′
   pub reads : (bytes slice : List ℕ) → (r : Outcome Label) × (left : List ℕ) × card .Read bytes slice r left
 
 -- the buffers bs can be lent to the rows of the calls cs: each has the length that its call says, and the row's lights are 16-bit words
@@ -36,32 +36,32 @@ before ls = map (λ (l : Lent). l .before) ls
 
 -- a history of the calls cs with the buffers bs
 pub record Happens (card : Card) (cs : List Call) (bs : List (List ℕ)) : Type 0 where
-  pub hs : List Heard
+  pub ans : List Answer
   pub ls : List Lent
   pub q : card .Picture
-  pub history : History card cs hs ls q
+  pub history : History card cs ans ls q
   pub lent : before ls ≡ bs
 
 module _ {card : Card} (calls : Answering card) where
   record Runs (p : card .Picture) (cs : List Call) (bs : List (List ℕ)) : Type 0 where
-    hs : List Heard
+    ans : List Answer
     ls : List Lent
     q : card .Picture
-    ran : Ran card p cs hs ls q
+    ran : Ran card p cs ans ls q
     lent : before ls ≡ bs
 
   runs : {cs : List Call} {bs : List (List ℕ)} → Lends cs bs → (p : card .Picture) → Runs p cs bs
-  runs none p = record { hs = []; ls = []; q = p; ran = ends; lent = refl }
+  runs none p = record { ans = []; ls = []; q = p; ran = ends; lent = refl }
   runs (at-open {n = n} {w = w} {h = h} rest) p =
       let a = calls .opens p n w h in
       let k = runs rest (a .1) in
-      record { hs = a .0 ∷ k .hs; ls = k .ls; q = k .q; ran = after-open (a .2) (k .ran); lent = k .lent }
+      record { ans = a .0 ∷ k .ans; ls = k .ls; q = k .q; ran = after-open (a .2) (k .ran); lent = k .lent }
   runs (at-row {lights = lights} {out = out} lit rest) p =
       let a = calls .rows p lights out in
       let k = runs rest (a .2) in
       record {
-        hs = a .0 ∷ k .hs;
-        ls = record { heard = a .0; before = out; after = a .1 } ∷ k .ls;
+        ans = a .0 ∷ k .ans;
+        ls = record { answer = a .0; before = out; after = a .1 } ∷ k .ls;
         q = k .q;
         ran = after-row lit (a .3) (k .ran);
         lent = ap (λ (bs : List (List ℕ)). out ∷ bs) (k .lent);
@@ -69,12 +69,12 @@ module _ {card : Card} (calls : Answering card) where
   runs (at-close rest) p =
       let a = calls .closes p in
       let k = runs rest (a .1) in
-      record { hs = a .0 ∷ k .hs; ls = k .ls; q = k .q; ran = after-close (a .2) (k .ran); lent = k .lent }
+      record { ans = a .0 ∷ k .ans; ls = k .ls; q = k .q; ran = after-close (a .2) (k .ran); lent = k .lent }
 
   pub every-list-happens : {cs : List Call} {bs : List (List ℕ)} → Lends cs bs → Happens card cs bs
   every-list-happens b =
       let k = runs b (calls .news .0) in
-      record { hs = k .hs; ls = k .ls; q = k .q; history = record { start = calls .news .0; made = calls .news .1; ran = k .ran }; lent = k .lent }
+      record { ans = k .ans; ls = k .ls; q = k .q; history = record { start = calls .news .0; made = calls .news .1; ran = k .ran }; lent = k .lent }
 
 -- ---- this crate's card
 
@@ -88,12 +88,12 @@ lifetimes = ([], ([], tt))
 pub answering : Answering card
 answering = record {
   news = (at Fresh, refl);
-  opens = λ p n w h. let a = answer (open-tellable (p .phase) n w h) in (_, _, by-open (a .change) p n w h (a .told));
+  opens = λ p n w h. let a = change-for (open-answerable (p .phase) n w h) in (_, _, by-open (a .change) p n w h (a .outcome));
   rows = λ p lights out.
-      let a = answer (row-tellable (p .phase) lights (length out)) in
-      (_, _, _, by-row lifetimes (lend lights) (lend out) (lend lights) (lend (bufferAfter p lights out)) (a .change) p (a .told, refl));
-  closes = λ p. let a = answer (close-tellable (p .phase)) in (_, _, by-close (a .change) p (a .told));
+      let a = change-for (row-answerable (p .phase) lights (length out)) in
+      (_, _, _, by-row lifetimes (lend lights) (lend out) (lend lights) (lend (bufferAfter p lights out)) (a .change) p (a .outcome, refl));
+  closes = λ p. let a = change-for (close-answerable (p .phase)) in (_, _, by-close (a .change) p (a .outcome));
   reads = λ bytes slice.
-      let a = block-answer (reading-tellable bytes (length slice)) in
-      (_, _, by-read-block lifetimes (lend bytes) (lend slice) (lend bytes) (lend (sliceAfter bytes slice)) (a .read) (a .told, refl));
+      let a = read-for (reading-answerable bytes (length slice)) in
+      (_, _, by-read-block lifetimes (lend bytes) (lend slice) (lend bytes) (lend (sliceAfter bytes slice)) (a .read) (a .outcome, refl));
 }

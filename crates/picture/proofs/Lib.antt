@@ -8,6 +8,6 @@ mod Rows
 pub mod Steps
 pub mod Demand
 pub mod Resume
-pub mod Tellable
+pub mod Answerable
 pub mod Histories
-pub mod Whole
+pub mod Theorem

@@ -29,8 +29,8 @@ use Rattle.block.specs.Block.{sampleOf}
 use Rattle.block.specs.Read.{sampleAt, decoded, codesTo, clippedTo, headerOf, sliceAfter}
 use Rattle.block.proofs.Decoding.{length-codes}
 use Rattle.block.proofs.ReadBack.{NominalRow, block-samples, block-reads-back, block-decodes-back}
-use Rattle.row.specs.Row.{sampleCodes, sampleWords, listed, rowBlock}
-use Rattle.row.proofs.Sections.{length-listed}
+use Rattle.row.specs.Row.{sampleCodes, sampleWords, tabulate, rowBlock}
+use Rattle.row.proofs.Sections.{length-tabulate}
 use Rattle.row.proofs.Samples.{lights-nominal}
 use Rattle.row.proofs.Written.{length-row-block}
 use Rattle.picture.proofs.Calls.{Card, Lights}
@@ -41,17 +41,17 @@ use Rattle.picture.proofs.Neighbours.{from-below, to-above}
 
 -- ---- lists
 
-listed-at : (f : ℕ → ℕ) (n i : ℕ) → i < n → getD (listed f n) i 0 ≡ f i
-unfolding listed
-listed-at f zero i h = absurd (omega arith)
-listed-at f (suc n) i h = go (listed-at f n i) (below-or-not i n)
+tabulate-at : (f : ℕ → ℕ) (n i : ℕ) → i < n → getD (tabulate f n) i 0 ≡ f i
+unfolding tabulate
+tabulate-at f zero i h = absurd (omega arith)
+tabulate-at f (suc n) i h = go (tabulate-at f n i) (below-or-not i n)
   where
-    go : (i < n → getD (listed f n) i 0 ≡ f i) → (i < n) ⊎ (n ≤ i) → getD (listed f n ++ f n ∷ []) i 0 ≡ f i
-    go before (inl l) = List·getD-append (listed f n) (f n ∷ []) 0 i (omega (arith, length-listed f n)) ∙ before l
+    go : (i < n → getD (tabulate f n) i 0 ≡ f i) → (i < n) ⊎ (n ≤ i) → getD (tabulate f n ++ f n ∷ []) i 0 ≡ f i
+    go before (inl l) = List·getD-append (tabulate f n) (f n ∷ []) 0 i (omega (arith, length-tabulate f n)) ∙ before l
     go before (inr l) =
-        let e : i ≡ length (listed f n) + 0 = omega (arith, length-listed f n) in
+        let e : i ≡ length (tabulate f n) + 0 = omega (arith, length-tabulate f n) in
         let same : n ≡ i = omega arith in
-        ap (λ (j : ℕ). getD (listed f n ++ f n ∷ []) j 0) e ∙ getD-append-add (listed f n) (f n ∷ []) 0 0 ∙ ap f same
+        ap (λ (j : ℕ). getD (tabulate f n ++ f n ∷ []) j 0) e ∙ getD-append-add (tabulate f n) (f n ∷ []) 0 0 ∙ ap f same
 
 -- what holds of each sample's three codes at their places holds of every code of a row
 module _ (row : ℕ → Clipped) (P : ℕ → ℕ → Type 0) where
@@ -141,28 +141,28 @@ module _ (y : System) (lights : List ℕ) (i : ℕ) where
 
 module _ (y : System) (r w : ℕ) (lights : List ℕ) (some : 1 ≤ w) (most : w ≤ 7680) (low : r ≤ 4319) where
   abbrev ys : List ℕ
-  ys = listed (λ i. sampleWords y lights i .y) w
+  ys = tabulate (λ i. sampleWords y lights i .y) w
 
   abbrev cbs : List ℕ
-  cbs = listed (λ i. sampleWords y lights i .cb) w
+  cbs = tabulate (λ i. sampleWords y lights i .cb) w
 
   abbrev crs : List ℕ
-  crs = listed (λ i. sampleWords y lights i .cr) w
+  crs = tabulate (λ i. sampleWords y lights i .cr) w
 
   samples : (i : ℕ) → i < w → sampleOf ys cbs crs i ≡ sampleWords y lights i
   samples i h =
-      let a = listed-at (λ i. sampleWords y lights i .y) w i h in
-      let b = listed-at (λ i. sampleWords y lights i .cb) w i h in
-      let c = listed-at (λ i. sampleWords y lights i .cr) w i h in
+      let a = tabulate-at (λ i. sampleWords y lights i .y) w i h in
+      let b = tabulate-at (λ i. sampleWords y lights i .cb) w i h in
+      let c = tabulate-at (λ i. sampleWords y lights i .cr) w i h in
       λ k. record { y = a k; cb = b k; cr = c k }
 
   nominal-row : NominalRow y w ys cbs crs
   nominal-row = record {
     some = some;
     most = most;
-    luma-count = length-listed _ w;
-    cb-count = length-listed _ w;
-    cr-count = length-listed _ w;
+    luma-count = length-tabulate _ w;
+    cb-count = length-tabulate _ w;
+    cr-count = length-tabulate _ w;
     nominal = λ i h. ap (wordsWithin y) (samples i h) ∙ sample-passes y lights i;
   }
 
@@ -178,9 +178,9 @@ module _ (y : System) (r w : ℕ) (lights : List ℕ) (some : 1 ≤ w) (most : w
   header : Header
   header = record { system = y; row = r; samples = w; clipped = clippedTo row w }
 
-  heard : (room : ℕ) → 3 * w ≤ room → headerOf (rowBlock y r w lights) room ≡ accepted header
+  answer : (room : ℕ) → 3 * w ≤ room → headerOf (rowBlock y r w lights) room ≡ accepted header
   unfolding rowBlock header
-  heard room h = block-reads-back (number y) r w y ys cbs crs nominal-row (named-number y) low room h
+  answer room h = block-reads-back (number y) r w y ys cbs crs nominal-row (named-number y) low room h
 
   left : (slice : List ℕ) → 3 * w ≤ length slice → sliceAfter (rowBlock y r w lights) slice ≡ codesTo row w ++ drop (3 * w) slice
   unfolding rowBlock
@@ -203,7 +203,7 @@ module _ (y : System) (r w : ℕ) (lights : List ℕ) (some : 1 ≤ w) (most : w
     size = length-row-block y r w lights;
     words = words;
     reads = λ {slice} room given. record {
-      told = does .reads given .0 ∙ ap labelOf (heard (length slice) room);
+      told = does .reads given .0 ∙ ap labelOf (answer (length slice) room);
       codes = λ j h. rw (does .reads given .1 ∙ left slice room) (codes lit slice j h);
     };
   }

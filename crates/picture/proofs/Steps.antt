@@ -19,20 +19,20 @@ use Rattle.picture.specs.declared.Phase.{Phase}
 use Rattle.picture.specs.declared.Phase.the-variants.{Fresh, Open, Closed}
 use Rattle.picture.specs.declared.Picture.{Picture}
 use Rattle.picture.specs.Picture.{at, beginIn, begin, openFrom, rowOpen, rowFrom, closeFrom}
-use Rattle.picture.specs.Book.{Call, opens, rows, closes, opened, Heard, accepted, refused, among, choose, hears, next}
+use Rattle.picture.specs.Book.{Call, opens, rows, closes, opened, Answer, accepted, refused, among, choose, answers, next}
 use Rattle.picture.proofs.Agreement.{split, at-least-is-not-below, below-is-not-at-least}
-use Rattle.picture.proofs.Card.{heardOf, leads}
+use Rattle.picture.proofs.Card.{answerOf, leads}
 use Rattle.picture.proofs.Claims.{stateOf, Proper}
 
--- what is heard of the call c is the book's, and it leads to where the book's next state is, a picture that calls can reach
-pub record InStep (p : Picture) (c : Call) (heard : Heard) (p′ : Picture) : Type 0 where
-  pub same : heard ≡ hears (stateOf (p .phase)) c
+-- the answer to the call c is the book's, and it leads to where the book's next state is, a picture that calls can reach
+pub record InStep (p : Picture) (c : Call) (answer : Answer) (p′ : Picture) : Type 0 where
+  pub same : answer ≡ answers (stateOf (p .phase)) c
   pub leads-on : stateOf (p′ .phase) ≡ next (stateOf (p .phase)) c
   pub stays : Proper (p .phase) → Proper (p′ .phase)
 
 -- so it is where the call comes to o
 abbrev pub StepsTo : Phase → Call → Outcome Picture → Type 0
-StepsTo f c o = InStep (at f) c (heardOf o) (leads (at f) o)
+StepsTo f c o = InStep (at f) c (answerOf o) (leads (at f) o)
 
 -- ---- open
 
@@ -61,7 +61,7 @@ beginAs k w h = k and-then λ y. beginIn y w h
 
 -- an open where none is open, and the book's lines for it; t says whether n is 1 to 4
 record Begins (f : Phase) (n w h : ℕ) (k : Outcome System) (t : Bool) : Type 0 where
-  same : heardOf (beginAs k w h) ≡ choose (not t) (refused 1) (choose (not (among 1 7680 w)) (refused 2) (choose (not (among 1 4320 h)) (refused 3) accepted))
+  same : answerOf (beginAs k w h) ≡ choose (not t) (refused 1) (choose (not (among 1 7680 w)) (refused 2) (choose (not (among 1 4320 h)) (refused 3) accepted))
   leads-on : stateOf (leads (at f) (beginAs k w h) .phase)
       ≡ choose (t && (among 1 7680 w && among 1 4320 h)) (opened (record { system = n; width = w; height = h; count = 0 })) (stateOf f)
   stays : Proper f → Proper (leads (at f) (beginAs k w h) .phase)

@@ -30,9 +30,9 @@ pub record Entry : Type 0 where
   pub row : ℕ
   pub lights : List ℕ
 
-pub data Heard : Type 0 where
-  accepted : Heard
-  refused : ℕ → Heard
+pub data Answer : Type 0 where
+  accepted : Answer
+  refused : ℕ → Answer
 
 abbrev pub among : ℕ → ℕ → ℕ → Bool
 among low high x = leb low x && leb x high
@@ -85,8 +85,8 @@ abbrev pub choose : {A : Type 0} → Bool → A → A → A
 choose true a b = a
 choose false a b = b
 
--- what is heard where conditions are tested in order: the number of the first that holds, or accepted where none does
-abbrev pub judged : List Condition → Heard
+-- the answer where conditions are tested in order: the number of the first that holds, or accepted where none does
+abbrev pub judged : List Condition → Answer
 judged [] = accepted
 judged (c ∷ cs) = choose (c .holds) (refused (c .number)) (judged cs)
 
@@ -105,12 +105,12 @@ enters st closes = []
 abbrev pub next : State → Call → State
 next st c = choose (accepts st c) (moves st c) st
 
-abbrev pub hears : State → Call → Heard
-hears st c = judged (conditions st c)
+abbrev pub answers : State → Call → Answer
+answers st c = judged (conditions st c)
 
-unfoldable pub heardFrom : State → List Call → List Heard
-heardFrom st [] = []
-heardFrom st (c ∷ cs) = hears st c ∷ heardFrom (next st c) cs
+unfoldable pub answersFrom : State → List Call → List Answer
+answersFrom st [] = []
+answersFrom st (c ∷ cs) = answers st c ∷ answersFrom (next st c) cs
 
 unfoldable pub entriesFrom : State → List Call → List Entry
 entriesFrom st [] = []

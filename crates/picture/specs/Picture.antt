@@ -107,6 +107,6 @@ abbrev pub closing : Picture → Outcome Picture
 closing p = closeFrom (p .phase)
 
 -- what the answer says
-abbrev pub toldPicture : Change → Outcome Picture
-toldPicture (change.To p) = accepted p
-toldPicture (change.Refused r) = refused (refusal r)
+abbrev pub pictureOutcome : Change → Outcome Picture
+pictureOutcome (change.To p) = accepted p
+pictureOutcome (change.Refused r) = refused (refusal r)

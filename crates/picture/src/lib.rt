@@ -12,7 +12,7 @@ ghost use mathlib.Core.Bool.{_&&_};
 ghost use lib.Dec.{leb};
 ghost use lib.ListN.{length};
 ghost use Rattle.picture.specs.declared.Phase.the-variants.{Fresh};
-ghost use Rattle.picture.specs.Picture.{at, resumed, resumedOpen, proper, beginIn, begin, opening, rowOpen, rowing, bufferBy, bufferAfter, closing, toldPicture};
+ghost use Rattle.picture.specs.Picture.{at, resumed, resumedOpen, proper, beginIn, begin, opening, rowOpen, rowing, bufferBy, bufferAfter, closing, pictureOutcome};
 
 // What an open picture was opened with, and how many of its rows were accepted.
 pub struct Opened {
@@ -68,7 +68,7 @@ impl Picture {
 
     // Refused: 21, then 1, 2, 3.
     pub fn open(self, system: u32, width: u32, height: u32) -> Change
-        ensures { λ r. ⌜ toldPicture r ≡ opening self system width height ⌝ }
+        ensures { λ r. ⌜ pictureOutcome r ≡ opening self system width height ⌝ }
     {
         let phase = self.phase;
         match phase {
@@ -80,7 +80,7 @@ impl Picture {
 
     // One block to the front of the buffer. Refused: 22, 23, then 4, 5.
     pub fn row(self, lights: &[u16], out: &mut [u8]) -> Change
-        ensures { λ r. ⌜ (toldPicture r ≡ rowing self (now (lights .entry)) (length (now (out .entry)))) × (now (out .exit) ≡ bufferAfter self (now (lights .entry)) (now (out .entry))) ⌝ }
+        ensures { λ r. ⌜ (pictureOutcome r ≡ rowing self (now (lights .entry)) (length (now (out .entry)))) × (now (out .exit) ≡ bufferAfter self (now (lights .entry)) (now (out .entry))) ⌝ }
     {
         let phase = self.phase;
         match phase {
@@ -92,7 +92,7 @@ impl Picture {
 
     // Refused: 22, then 24.
     pub fn close(self) -> Change
-        ensures { λ r. ⌜ toldPicture r ≡ closing self ⌝ }
+        ensures { λ r. ⌜ pictureOutcome r ≡ closing self ⌝ }
     {
         let phase = self.phase;
         match phase {
@@ -133,7 +133,7 @@ fn is_proper(o: Opened) -> bool
 }
 
 fn begin(system: u32, width: u32, height: u32) -> Change
-    ensures { λ r. ⌜ toldPicture r ≡ begin system width height ⌝ }
+    ensures { λ r. ⌜ pictureOutcome r ≡ begin system width height ⌝ }
 {
     match System::from_number(system) {
         Named::Known(y) => begin_in(y, width, height),
@@ -142,7 +142,7 @@ fn begin(system: u32, width: u32, height: u32) -> Change
 }
 
 fn begin_in(y: System, width: u32, height: u32) -> Change
-    ensures { λ r. ⌜ toldPicture r ≡ beginIn y width height ⌝ }
+    ensures { λ r. ⌜ pictureOutcome r ≡ beginIn y width height ⌝ }
 {
     if !is_size(width, MOST_SAMPLES) {
         return Change::Refused(Refusal::Width);
@@ -163,7 +163,7 @@ fn begin_in(y: System, width: u32, height: u32) -> Change
 }
 
 fn next_row(o: Opened, lights: &[u16], out: &mut [u8]) -> Change
-    ensures { λ r. ⌜ (toldPicture r ≡ rowOpen o (now (lights .entry)) (length (now (out .entry)))) × (now (out .exit) ≡ bufferBy (rowOpen o (now (lights .entry)) (length (now (out .entry)))) o (now (lights .entry)) (now (out .entry))) ⌝ }
+    ensures { λ r. ⌜ (pictureOutcome r ≡ rowOpen o (now (lights .entry)) (length (now (out .entry)))) × (now (out .exit) ≡ bufferBy (rowOpen o (now (lights .entry)) (length (now (out .entry)))) o (now (lights .entry)) (now (out .entry))) ⌝ }
 {
     let rows = o.rows;
     let height = o.height;

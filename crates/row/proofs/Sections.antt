@@ -7,15 +7,15 @@ use native.Mathlib.Omega.{arith}
 use lib.ListN.{length, set, getD, take, drop, length-append, length-drop, take-append-drop, drop-of-length-le}
 use lib.Seq.{set-at, drop-drop, drop-cons}
 use Rattle.block.specs.Block.{field, fields}
-use Rattle.row.specs.Row.{listed}
+use Rattle.row.specs.Row.{tabulate}
 use Rattle.row.specs.Inner.{put}
 
 -- ---- the words
 
-pub length-listed : (f : ℕ → ℕ) (n : ℕ) → length (listed f n) ≡ n
-unfolding listed
-length-listed f zero = refl
-length-listed f (suc n) = simp length-append (omega (arith, length-listed f n))
+pub length-tabulate : (f : ℕ → ℕ) (n : ℕ) → length (tabulate f n) ≡ n
+unfolding tabulate
+length-tabulate f zero = refl
+length-tabulate f (suc n) = simp length-append (omega (arith, length-tabulate f n))
 
 fields-append : (a b : List ℕ) → fields (a ++ b) ≡ fields a ++ fields b
 unfolding fields
@@ -58,33 +58,33 @@ join-left p a b c q = simp append-assoc
 
 -- the first i words of a section, and after them what is left of the bytes g
 unfoldable pub part : (ℕ → ℕ) → List ℕ → ℕ → List ℕ
-part f g i = fields (listed f i) ++ drop (2 * i) g
+part f g i = fields (tabulate f i) ++ drop (2 * i) g
 
 module _ (f : ℕ → ℕ) (g : List ℕ) (w : ℕ) (size : length g ≡ 2 * w) where
   -- all words stored: none of the bytes is left
-  pub part-all : part f g w ≡ fields (listed f w)
+  pub part-all : part f g w ≡ fields (tabulate f w)
   unfolding part
   part-all =
       let over : length g ≤ 2 * w = omega arith in
-      rw (drop-of-length-le g over) (append-nil (fields (listed f w)))
+      rw (drop-of-length-le g over) (append-nil (fields (tabulate f w)))
 
   pub length-part : (i : ℕ) → i ≤ w → length (part f g i) ≡ 2 * w
   unfolding part
-  length-part i h = simp (length-append, length-fields, length-listed, length-drop) (omega arith)
+  length-part i h = simp (length-append, length-fields, length-tabulate, length-drop) (omega arith)
 
   -- word i is stored behind the first i
   pub part-more : (p q : List ℕ) (i n : ℕ) → length p + 2 * i ≡ n → i < w → put n (f i) (p ++ (part f g i ++ q)) ≡ p ++ (part f g (suc i) ++ q)
-  unfolding part listed fields
+  unfolding part tabulate fields
   part-more p q i n e h =
-      let stored : List ℕ = fields (listed f i) in
+      let stored : List ℕ = fields (tabulate f i) in
       let left : List ℕ = drop (2 * suc i) g in
       let next : 2 * i + 2 ≡ 2 * suc i = omega arith in
       let room : 2 * suc i ≤ length g = omega arith in
-      let here : length (p ++ stored) ≡ n = simp (length-append, length-fields, length-listed) (omega arith) in
+      let here : length (p ++ stored) ≡ n = simp (length-append, length-fields, length-tabulate) (omega arith) in
       ap (put n (f i))
       (ap (λ (l : List ℕ). p ++ l) (append-assoc stored (drop (2 * i) g) q)
       ∙ sym (append-assoc p stored (drop (2 * i) g ++ q))
       ∙ ap (λ (l : List ℕ). p ++ stored ++ (l ++ q)) (pair-at (2 * i) (2 * suc i) g next room))
       ∙ put-at (p ++ stored) (left ++ q) (getD g (2 * i) 0) (getD g (suc (2 * i)) 0) (f i) n here
       ∙ join-left p stored (field (f i)) left q
-      ∙ ap (λ (l : List ℕ). p ++ (l ++ left ++ q)) (sym (fields-append (listed f i) (f i ∷ [])))
+      ∙ ap (λ (l : List ℕ). p ++ (l ++ left ++ q)) (sym (fields-append (tabulate f i) (f i ∷ [])))

@@ -12,9 +12,9 @@ use Rattle.systems.specs.Systems.{number}
 use Rattle.matrix.specs.declared.Words.{Words}
 use Rattle.block.specs.Block.{field, fields, section, block}
 use Rattle.block.proofs.Bytes.{block-fields}
-use Rattle.row.specs.Row.{listed, sampleWords, rowBlock}
+use Rattle.row.specs.Row.{tabulate, sampleWords, rowBlock}
 use Rattle.row.specs.Inner.{put, headed, worded, stored}
-use Rattle.row.proofs.Sections.{length-listed, part, part-all, part-more, length-part, gap-at, pair-at, put-at}
+use Rattle.row.proofs.Sections.{length-tabulate, part, part-all, part-more, length-part, gap-at, pair-at, put-at}
 
 -- what stands behind three lists, and behind five
 behind-3 : (a b c q : List ℕ) → a ++ b ++ c ++ q ≡ a ++ (b ++ (c ++ q))
@@ -86,7 +86,7 @@ module _ (words : ℕ → Words) (n row w : ℕ) (ys cbs crs rest : List ℕ)
 
   head-stored : (a₀ a₁ a₂ a₃ a₄ b₀ b₁ c₀ c₁ : ℕ)
       → headed n row w (a₀ ∷ a₁ ∷ a₂ ∷ a₃ ∷ a₄ ∷ (ys ++ (b₀ ∷ b₁ ∷ (cbs ++ (c₀ ∷ c₁ ∷ (crs ++ rest)))))) ≡ at 0 0 0
-  unfolding headed laid part listed fields
+  unfolding headed laid part tabulate fields
   head-stored a₀ a₁ a₂ a₃ a₄ b₀ b₁ c₀ c₁ =
       let last : List ℕ = c₀ ∷ c₁ ∷ (crs ++ rest) in
       let front : List ℕ = head n row w ++ ys in
@@ -100,18 +100,18 @@ module _ (words : ℕ → Words) (n row w : ℕ) (ys cbs crs rest : List ℕ)
       ∙ behind-3 front (field w) cbs (field w ++ (crs ++ rest))
       ∙ append-assoc (head n row w) ys (field w ++ (cbs ++ (field w ++ (crs ++ rest))))
 
-  all-stored : at w w w ≡ block n row (listed (λ m. words m .y) w) (listed (λ m. words m .cb) w) (listed (λ m. words m .cr) w) ++ rest
+  all-stored : at w w w ≡ block n row (tabulate (λ m. words m .y) w) (tabulate (λ m. words m .cb) w) (tabulate (λ m. words m .cr) w) ++ rest
   unfolding laid block section
   all-stored =
       rw (part-all (λ m. words m .y) ys w size-y, part-all (λ m. words m .cb) cbs w size-cb, part-all (λ m. words m .cr) crs w size-cr)
-      (simp length-listed
+      (simp length-tabulate
       (ap (λ (l : List ℕ). head n row w ++ l)
-      (sym (behind-3 (fields (listed (λ m. words m .y) w)) (field w ++ fields (listed (λ m. words m .cb) w)) (field w ++ fields (listed (λ m. words m .cr) w)) rest))))
+      (sym (behind-3 (fields (tabulate (λ m. words m .y) w)) (field w ++ fields (tabulate (λ m. words m .cb) w)) (field w ++ fields (tabulate (λ m. words m .cr) w)) rest))))
 
 -- a row's stores make its block in every buffer that has room for it
 row-stored : (words : ℕ → Words) (n row w : ℕ) (d : List ℕ) → 9 + 6 * w ≤ length d
     → stored words w (headed n row w d) w
-    ≡ block n row (listed (λ m. words m .y) w) (listed (λ m. words m .cb) w) (listed (λ m. words m .cr) w) ++ drop (9 + 6 * w) d
+    ≡ block n row (tabulate (λ m. words m .y) w) (tabulate (λ m. words m .cb) w) (tabulate (λ m. words m .cr) w) ++ drop (9 + 6 * w) d
 row-stored words n row w d h =
     let room : 0 < length d = omega arith in
     let ys : List ℕ = take (2 * w) (drop 5 d) in
@@ -148,4 +148,4 @@ row-written y row w lights d d₁ d₂ h begun done =
 -- a row of w samples takes 9 + 6w bytes
 pub length-row-block : (y : System) (row w : ℕ) (lights : List ℕ) → length (rowBlock y row w lights) ≡ 9 + 6 * w
 unfolding rowBlock
-length-row-block y row w lights = block-fields (number y) row w _ _ _ (length-listed _ w) (length-listed _ w) (length-listed _ w) .size
+length-row-block y row w lights = block-fields (number y) row w _ _ _ (length-tabulate _ w) (length-tabulate _ w) (length-tabulate _ w) .size

@@ -19,14 +19,14 @@ unfoldable pub sampleWords : System → List ℕ → ℕ → Words
 sampleWords y lights i = wordsAt (matrix y) (scale y) (sampleCodes y lights i)
 
 -- f at 0, 1, .. up to n
-unfoldable pub listed : (ℕ → ℕ) → ℕ → List ℕ
-listed f zero = []
-listed f (suc n) = listed f n ++ f n ∷ []
+unfoldable pub tabulate : (ℕ → ℕ) → ℕ → List ℕ
+tabulate f zero = []
+tabulate f (suc n) = tabulate f n ++ f n ∷ []
 
 -- the block of a row of w samples
 unfoldable pub rowBlock : System → ℕ → ℕ → List ℕ → List ℕ
 rowBlock y row w lights =
     block (number y) row
-    (listed (λ i. sampleWords y lights i .y) w)
-    (listed (λ i. sampleWords y lights i .cb) w)
-    (listed (λ i. sampleWords y lights i .cr) w)
+    (tabulate (λ i. sampleWords y lights i .y) w)
+    (tabulate (λ i. sampleWords y lights i .cb) w)
+    (tabulate (λ i. sampleWords y lights i .cr) w)

@@ -31,12 +31,12 @@ allInUnit e = inUnit (e .r) && inUnit (e .g) && inUnit (e .b)
 abbrev pub component : ℕ → Float → ℕ
 component s e = INT ((219 * num e + 16 * den e) * s) (den e)
 
-abbrev pub codesAt : ℕ → Signals → Codes
-codesAt s e = record { r = component s (e .r); g = component s (e .g); b = component s (e .b) }
+abbrev pub quantisedAt : ℕ → Signals → Codes
+quantisedAt s e = record { r = component s (e .r); g = component s (e .g); b = component s (e .b) }
 
 -- the codes of a triple of signals in the system that n names, or refusal 1 or 7
 abbrev pub signalCodes : ℕ → Signals → Outcome Codes
-signalCodes n e = named n and-then λ (y : System). require (allInUnit e) 7 (accepted (codesAt (scale y) e))
+signalCodes n e = named n and-then λ (y : System). require (allInUnit e) 7 (accepted (quantisedAt (scale y) e))
 
 -- the f32 nearest to (D - 16s)/(219s), ties to even; it is positive zero for 16s
 abbrev pub nearest : ℕ → ℕ → Float
@@ -50,11 +50,11 @@ abbrev pub codeSignals : ℕ → Codes → Outcome Signals
 codeSignals n d = named n and-then λ (y : System). require (allWithin (nominal y) d) 6 (accepted (signalsAt (scale y) d))
 
 -- what a `Quantised` says
-abbrev pub quantised : Quantised → Outcome Codes
-quantised (to-codes.Codes d) = accepted d
-quantised (to-codes.Refused f) = refused (refusal f)
+abbrev pub quantisedOutcome : Quantised → Outcome Codes
+quantisedOutcome (to-codes.Codes d) = accepted d
+quantisedOutcome (to-codes.Refused f) = refused (refusal f)
 
 -- what a `Restored` says
-abbrev pub restored : Restored → Outcome Signals
-restored (to-signals.Signals e) = accepted e
-restored (to-signals.Refused f) = refused (refusal f)
+abbrev pub restoredOutcome : Restored → Outcome Signals
+restoredOutcome (to-signals.Signals e) = accepted e
+restoredOutcome (to-signals.Refused f) = refused (refusal f)

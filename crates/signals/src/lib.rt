@@ -7,7 +7,7 @@ ghost use mathlib.Core.Path.{_≡_};
 ghost use Prim.Native.Nat.{_*_, _≤_};
 ghost use lib.Dec.{T};
 ghost use Rattle.systems.specs.Systems.{scale};
-ghost use Rattle.signals.specs.Signals.{inUnit, allInUnit, component, codesAt, signalCodes, nearest, signalsAt, codeSignals, quantised, restored};
+ghost use Rattle.signals.specs.Signals.{inUnit, allInUnit, component, quantisedAt, signalCodes, nearest, signalsAt, codeSignals, quantisedOutcome, restoredOutcome};
 
 // A triple of signals E', each from 0 to 1.
 #[repr(C)]
@@ -31,7 +31,7 @@ pub enum Restored {
 
 // The code of each signal's exact value; refused with 1, then 7.
 pub fn codes_of_signals(system: u32, signals: Signals) -> Quantised
-    ensures { λ r. ⌜ quantised r ≡ signalCodes system signals ⌝ }
+    ensures { λ r. ⌜ quantisedOutcome r ≡ signalCodes system signals ⌝ }
 {
     match System::from_number(system) {
         Named::Known(y) => {
@@ -47,7 +47,7 @@ pub fn codes_of_signals(system: u32, signals: Signals) -> Quantised
 
 // The f32 nearest to each code's signal; refused with 1, then 6.
 pub fn signals_of_codes(system: u32, codes: Codes) -> Restored
-    ensures { λ r. ⌜ restored r ≡ codeSignals system codes ⌝ }
+    ensures { λ r. ⌜ restoredOutcome r ≡ codeSignals system codes ⌝ }
 {
     match System::from_number(system) {
         Named::Known(y) => {
@@ -89,7 +89,7 @@ fn code_of(y: System, e: f32) -> u16
 
 fn codes_at(y: System, signals: Signals) -> Codes
     requires { ⌜ T (inUnit (signals .r)) × T (inUnit (signals .g)) × T (inUnit (signals .b)) ⌝ }
-    ensures { λ r. ⌜ r ≡ codesAt (scale y) signals ⌝ }
+    ensures { λ r. ⌜ r ≡ quantisedAt (scale y) signals ⌝ }
 {
     Codes {
         r: code_of(y, signals.r),

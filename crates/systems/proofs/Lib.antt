@@ -1,3 +1,3 @@
 pub mod Scales
 pub mod Ranges
-pub mod Tellable
+pub mod Answerable

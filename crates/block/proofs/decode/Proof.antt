@@ -9,8 +9,8 @@ use Rattle.systems.specs.declared.Range.{Range}
 use Rattle.systems.specs.Systems.{matrix, scale}
 use Rattle.systems.proofs.Scales.{scale-range}
 use Rattle.block.specs.Read.{sampleAt}
-use Rattle.block.specs.Inner.{biasedRow, listedTo, clippedAll, beyondAll}
-use Rattle.block.proofs.Decoding.{listed-kept}
+use Rattle.block.specs.Inner.{biasedRow, triplesTo, clippedAll, beyondAll}
+use Rattle.block.proofs.Decoding.{triples-kept}
 use Rattle.block.proofs.Clipping.{clipped-row}
 use borrow.Author.Needs.{needs}
 use Rattle.block.proofs.decode.Statement.{statement}
@@ -24,14 +24,14 @@ module _ (c : tie.After-put-unclipped) where
   abbrev unclipped : List ℕ
   unclipped = c .put-unclipped .last .1 .1 .1 .0
 
-  abbrev listed : Matrix → List ℕ
-  listed x = listedTo (biasedRow x (scale (start .args .system)) (sampleAt (now (start .args .bytes)) (start .args .samples))) (start .args .samples) ++ drop (3 * start .args .samples) (now (start .args .codes))
+  abbrev rgb : Matrix → List ℕ
+  rgb x = triplesTo (biasedRow x (scale (start .args .system)) (sampleAt (now (start .args .bytes)) (start .args .samples))) (start .args .samples) ++ drop (3 * start .args .samples) (now (start .args .codes))
 
-  unclipped-is : unclipped ≡ listed (matrix (start .args .system))
-  unclipped-is = c .put-unclipped .ensures ∙ (λ j. listed (c .before .before .matrix .ensures j))
+  unclipped-is : unclipped ≡ rgb (matrix (start .args .system))
+  unclipped-is = c .put-unclipped .ensures ∙ (λ j. rgb (c .before .before .matrix .ensures j))
 
   unclipped-long : length unclipped ≡ length (now (start .args .codes))
-  unclipped-long = ap length unclipped-is ∙ listed-kept _ (start .args .samples) (now (start .args .codes)) (start .pre .fits)
+  unclipped-long = ap length unclipped-is ∙ triples-kept _ (start .args .samples) (now (start .args .codes)) (start .pre .fits)
 
 put-unclipped-requires : tie.Need-put-unclipped-requires
 put-unclipped-requires c κs = c .before .before .before .before .pre

@@ -4,7 +4,7 @@ use denote.Ref.{now}
 use borrow.Author.Tests.{leb-true, leb-false, not-true, not-false}
 use Rattle.exact.specs.Outcome.{accepted}
 use Rattle.block.specs.Read.{walk}
-use Rattle.block.specs.Inner.{toldWalk}
+use Rattle.block.specs.Inner.{walkOutcome}
 use Rattle.block.proofs.Walking.{walk-accepted}
 use Rattle.block.proofs.Reading.{walk-refused, word-refused, room-refused, row-accepted, decodable, slice-stays, codes-in-front}
 use borrow.Author.Needs.{needs}
@@ -13,7 +13,7 @@ use Rattle.block.proofs.read_block.Tie as tie
 
 -- the block that the walk found
 walked : (c : tie.After-b) → walk (now (c .before .before .before .before .before .args .bytes)) ≡ accepted (c .b .given .0 .0)
-walked c = sym (c .before .before .walk .ensures) ∙ ap toldWalk (c .b .given .1)
+walked c = sym (c .before .before .walk .ensures) ∙ ap walkOutcome (c .b .given .1)
 
 all-nominal-requires : tie.Need-all-nominal-requires
 all-nominal-requires c κs = let shape = walk-accepted _ _ (walked (c .before)) .0 in (omega (arith, shape .size), shape .most)
@@ -41,7 +41,7 @@ returns-3 c =
 
 returns-4 : tie.Need-returns-4
 returns-4 c =
-    let e = walk-refused _ _ _ (sym (c .before .before .before .walk .ensures) ∙ ap toldWalk (c .before .r .given .1)) in
+    let e = walk-refused _ _ _ (sym (c .before .before .before .walk .ensures) ∙ ap walkOutcome (c .before .r .given .1)) in
     (sym e, slice-stays _ _ _ e)
 
 pub read-block-spec : {M : Type 1} → statement M

@@ -4,7 +4,7 @@ use Prim.Native.Nat.{_+_, _*_, _-_, _≤_}
 use native.Mathlib.Omega.{arith}
 use borrow.Author.Needs.{needs}
 use Rattle.listing.specs.Listing.{linesTo}
-use Rattle.listing.specs.Text.{Put, tripleAt}
+use Rattle.listing.specs.Inner.{Put, tripleAt}
 use Rattle.listing.proofs.Pieces.{nothing, puts, put-length}
 use Rattle.listing.proofs.put_lines.Statement.{statement}
 use Rattle.listing.proofs.put_lines.Tie as tie

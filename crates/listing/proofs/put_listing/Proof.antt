@@ -2,7 +2,7 @@ use Prim.Native.Nat.{ℕ}
 use Rattle.listing.proofs.Pieces.{put-as, at-front}
 use Rattle.listing.proofs.Listed.{row-listed, refusal-listed}
 use Rattle.block.proofs.Reading.{accepted-has-its-length, slice-keeps-its-length}
-use Rattle.block.specs.Read.{toldHeader}
+use Rattle.block.specs.Read.{headerOutcome}
 use mathlib.Core.List.{List}
 use lib.ListN.{length, replicate, length-replicate}
 use native.Mathlib.Omega.{arith}
@@ -21,19 +21,19 @@ all-zeros = length-replicate {A = ℕ} 23040 0
 put-row-requires : tie.Need-put-row-requires
 put-row-requires c κs =
     let read = c .before .before .before .before .before .before .read-block .ensures in
-    let bounds = accepted-has-its-length _ _ _ (sym (read .0) ∙ ap toldHeader (c .before .before .before .header .given .1)) in
+    let bounds = accepted-has-its-length _ _ _ (sym (read .0) ∙ ap headerOutcome (c .before .before .before .header .given .1)) in
     let long = ap length (read .1) ∙ slice-keeps-its-length _ zeros in
     (omega (arith, bounds .most, c .before .before .before .before .before .before .before .before .before .before .pre), omega (arith, bounds .fits, long))
 
 returns : tie.Need-returns
 returns c =
     let read = c .before .before .before .before .before .before .before .before .before .read-block .ensures in
-    at-front (put-as (c .before .before .put-row .ensures) (row-listed _ zeros all-zeros (ap toldHeader (sym (c .before .before .before .before .before .before .header .given .1)) ∙ read .0) (read .1)))
+    at-front (put-as (c .before .before .put-row .ensures) (row-listed _ zeros all-zeros (ap headerOutcome (sym (c .before .before .before .before .before .before .header .given .1)) ∙ read .0) (read .1)))
 
 returns-2 : tie.Need-returns-2
 returns-2 c =
     let read = c .before .before .before .before .before .before .before .before .read-block .ensures in
-    at-front (put-as (c .before .before .put-refusal .ensures) (refusal-listed _ zeros all-zeros (ap toldHeader (sym (c .before .before .before .before .before .refusal .given .1)) ∙ read .0)))
+    at-front (put-as (c .before .before .put-refusal .ensures) (refusal-listed _ zeros all-zeros (ap headerOutcome (sym (c .before .before .before .before .before .refusal .given .1)) ∙ read .0)))
 
 pub put-listing-spec : {M : Type 1} → statement M
 put-listing-spec =

@@ -12,26 +12,26 @@ use Rattle.row.proofs.write_row.Tie as tie
 row-709-requires : tie.Need-row-709-requires
 row-709-requires c κs =
     let made = c .before .before .before .before .before .before .new in
-    let told = c .before .before .before .before .before .before .before .enum-told .given .1 in
-    (ap matrix told, subst⁻¹ (λ (z : System). ReadyFor z 7 (made .result .boundaries) (made .result .index)) told (made .ensures), search needs)
+    let same = c .before .before .before .before .before .before .before .enum-told .given .1 in
+    (ap matrix same, subst⁻¹ (λ (z : System). ReadyFor z 7 (made .result .boundaries) (made .result .index)) same (made .ensures), search needs)
 
 row-709-requires-2 : tie.Need-row-709-requires-2
 row-709-requires-2 c κs =
     let made = c .before .before .before .before .before .before .new2 in
-    let told = c .before .before .before .before .before .before .before .enum-told2 .given .1 in
-    (ap matrix told, subst⁻¹ (λ (z : System). ReadyFor z 5 (made .result .boundaries) (made .result .index)) told (made .ensures .0), search needs)
+    let same = c .before .before .before .before .before .before .before .enum-told2 .given .1 in
+    (ap matrix same, subst⁻¹ (λ (z : System). ReadyFor z 5 (made .result .boundaries) (made .result .index)) same (made .ensures .0), search needs)
 
 row-2020-requires : tie.Need-row-2020-requires
 row-2020-requires c κs =
     let made = c .before .before .before .before .before .before .new3 in
-    let told = c .before .before .before .before .before .before .before .enum-told3 .given .1 in
-    (ap matrix told, subst⁻¹ (λ (z : System). ReadyFor z 5 (made .result .boundaries) (made .result .index)) told (made .ensures .1), search needs)
+    let same = c .before .before .before .before .before .before .before .enum-told3 .given .1 in
+    (ap matrix same, subst⁻¹ (λ (z : System). ReadyFor z 5 (made .result .boundaries) (made .result .index)) same (made .ensures .1), search needs)
 
 row-2020-requires-2 : tie.Need-row-2020-requires-2
 row-2020-requires-2 c κs =
     let made = c .before .before .before .before .before .before .new4 in
-    let told = c .before .before .before .before .before .before .before .enum-told4 .given .1 in
-    (ap matrix told, subst⁻¹ (λ (z : System). ReadyFor z 3 (made .result .boundaries) (made .result .index)) told (made .ensures), search needs)
+    let same = c .before .before .before .before .before .before .before .enum-told4 .given .1 in
+    (ap matrix same, subst⁻¹ (λ (z : System). ReadyFor z 3 (made .result .boundaries) (made .result .index)) same (made .ensures), search needs)
 
 returns : tie.Need-returns
 returns c =

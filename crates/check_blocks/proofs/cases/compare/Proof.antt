@@ -5,8 +5,8 @@ use native.Mathlib.Omega.{arith}
 use lib.ListN.{length, length-take, length-drop}
 use denote.Ref.{now}
 use borrow.Author.Needs.{needs}
-use Rattle.check_blocks.specs.Cases.{caseAt, sizeOf, wholeAt}
-use Rattle.check_blocks.proofs.Counting.{SoFar, none-yet, one-more, all-counted, whole-fits}
+use Rattle.check_blocks.specs.Cases.{caseAt, sizeOf, completeAt}
+use Rattle.check_blocks.proofs.Counting.{SoFar, none-yet, one-more, all-counted, complete-fits}
 use Rattle.check_blocks.proofs.cases.compare.Statement.{statement}
 use Rattle.check_blocks.proofs.cases.compare.Tie as tie
 
@@ -17,11 +17,11 @@ abbrev μ-loop : tie.MeasureT-loop
 μ-loop cases refusal tally₀ at₀ tally at = length cases - at
 
 -- the case at the loop's place lies within the cases
-here : (c : tie.After-size Inv-loop μ-loop) → wholeAt (now (c .before .before .before .before .before .before .args .cases)) (c .before .before .before .before .loop .at) ≡ true
+here : (c : tie.After-size Inv-loop μ-loop) → completeAt (now (c .before .before .before .before .before .before .args .cases)) (c .before .before .before .before .loop .at) ≡ true
 here c = sym (c .before .before .before .holds-case .ensures) ∙ c .before .before .if1 .taken
 
 fits : (c : tie.After-size Inv-loop μ-loop) → (c .before .before .before .before .loop .at + 16 ≤ length (now (c .before .before .before .before .before .before .args .cases))) × (c .before .before .before .before .loop .at + sizeOf (caseAt (now (c .before .before .before .before .before .before .args .cases)) (c .before .before .before .before .loop .at)) ≤ length (now (c .before .before .before .before .before .before .args .cases)))
-fits c = whole-fits (now (c .before .before .before .before .before .before .args .cases)) (c .before .before .before .before .loop .at) (here c)
+fits c = complete-fits (now (c .before .before .before .before .before .before .args .cases)) (c .before .before .before .before .loop .at) (here c)
 
 sized : (c : tie.After-size Inv-loop μ-loop) → c .size .result ≡ sizeOf (caseAt (now (c .before .before .before .before .before .before .args .cases)) (c .before .before .before .before .loop .at))
 sized c = c .size .ensures .0 ∙ ap sizeOf (c .before .case-at .ensures)
@@ -33,7 +33,7 @@ holds-case-requires : tie.Need-holds-case-requires Inv-loop μ-loop
 holds-case-requires c κs = c .loop .inv .within
 
 case-at-requires : tie.Need-case-at-requires Inv-loop μ-loop
-case-at-requires c κs = omega (arith, whole-fits (now (c .before .before .before .before .args .cases)) (c .before .before .loop .at) (sym (c .before .holds-case .ensures) ∙ c .if1 .taken))
+case-at-requires c κs = omega (arith, complete-fits (now (c .before .before .before .before .args .cases)) (c .before .before .loop .at) (sym (c .before .holds-case .ensures) ∙ c .if1 .taken))
 
 add-with-case : tie.Need-add-with-case Inv-loop μ-loop
 add-with-case c = omega (arith, fits c, sized c)

@@ -5,7 +5,7 @@ use lib.ListN.{length}
 use denote.Ref.{now}
 use borrow.Author.Needs.{needs}
 use Rattle.check_pictures.specs.Calls.{callAt, sizeOf}
-use Rattle.check_pictures.proofs.Walked.{SoFar, none-yet, is-whole, no-numbers, cut-off, one-more, all-played}
+use Rattle.check_pictures.proofs.Walked.{SoFar, none-yet, is-complete, no-numbers, cut-off, one-more, all-played}
 use Rattle.check_pictures.proofs.list.played.Statement.{statement}
 use Rattle.check_pictures.proofs.list.played.Tie as tie
 
@@ -29,14 +29,14 @@ returns c = all-played (c .before .before .before .before .before .loop .inv .2)
 loop-again : tie.Need-loop-again Inv-loop μ-loop
 loop-again c =
     let here = stepped (c .before .before .before .before .before .before .before .before .before .before .before .before .before .before .before .before .before) in
-    let whole = is-whole (now (c .before .before .before .before .before .before .before .before .before .before .before .before .before .before .before .before .before .before .before .before .before .before .before .before .before .before .args .calls)) (c .before .before .before .before .before .before .before .before .before .before .before .before .before .before .before .before .before .before .before .before .loop .at) (omega (arith, c .before .before .before .before .before .before .before .before .before .before .before .before .before .before .before .before .before .before .before .loop-test .taken)) (omega (arith, here, c .before .before .before .before .before .before .before .before .before .before .before .before .before .before .before .before .if1 .left)) in
-    (omega (arith, c .before .before .before .before .before .before .before .before .before .before .before .before .before .before .before .before .if1 .left), search needs, one-more (c .before .before .before .before .before .before .before .before .before .before .before .before .before .before .before .before .before .before .before .before .loop .inv .2) _ whole here)
+    let complete = is-complete (now (c .before .before .before .before .before .before .before .before .before .before .before .before .before .before .before .before .before .before .before .before .before .before .before .before .before .before .args .calls)) (c .before .before .before .before .before .before .before .before .before .before .before .before .before .before .before .before .before .before .before .before .loop .at) (omega (arith, c .before .before .before .before .before .before .before .before .before .before .before .before .before .before .before .before .before .before .before .loop-test .taken)) (omega (arith, here, c .before .before .before .before .before .before .before .before .before .before .before .before .before .before .before .before .if1 .left)) in
+    (omega (arith, c .before .before .before .before .before .before .before .before .before .before .before .before .before .before .before .before .if1 .left), search needs, one-more (c .before .before .before .before .before .before .before .before .before .before .before .before .before .before .before .before .before .before .before .before .loop .inv .2) _ complete here)
 
 loop-again-2 : tie.Need-loop-again-2 Inv-loop μ-loop
 loop-again-2 c =
     let here = stepped (c .before .before .before .before .before .before .before .before .before .before .before .before .before) in
-    let whole = is-whole (now (c .before .before .before .before .before .before .before .before .before .before .before .before .before .before .before .before .before .before .before .before .before .before .args .calls)) (c .before .before .before .before .before .before .before .before .before .before .before .before .before .before .before .before .loop .at) (omega (arith, c .before .before .before .before .before .before .before .before .before .before .before .before .before .before .before .loop-test .taken)) (omega (arith, here, c .before .before .before .before .before .before .before .before .before .before .before .before .if1 .left)) in
-    (omega (arith, c .before .before .before .before .before .before .before .before .before .before .before .before .if1 .left), search needs, one-more (c .before .before .before .before .before .before .before .before .before .before .before .before .before .before .before .before .loop .inv .2) _ whole here)
+    let complete = is-complete (now (c .before .before .before .before .before .before .before .before .before .before .before .before .before .before .before .before .before .before .before .before .before .before .args .calls)) (c .before .before .before .before .before .before .before .before .before .before .before .before .before .before .before .before .loop .at) (omega (arith, c .before .before .before .before .before .before .before .before .before .before .before .before .before .before .before .loop-test .taken)) (omega (arith, here, c .before .before .before .before .before .before .before .before .before .before .before .before .if1 .left)) in
+    (omega (arith, c .before .before .before .before .before .before .before .before .before .before .before .before .if1 .left), search needs, one-more (c .before .before .before .before .before .before .before .before .before .before .before .before .before .before .before .before .loop .inv .2) _ complete here)
 
 returns-2 : tie.Need-returns-2 Inv-loop μ-loop
 returns-2 c = all-played (c .before .before .loop .inv .2) _ (no-numbers (now (c .before .before .before .before .before .before .before .before .args .calls)) (c .before .before .loop .at) (omega (arith, c .before .loop-test .left))) (c .ended2 .ensures)

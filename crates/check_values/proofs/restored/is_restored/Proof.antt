@@ -1,7 +1,7 @@
 use mathlib.Core.Path.{sym, ap, _∙_}
 use Rattle.exact.specs.Outcome.{Outcome}
 use Rattle.signals.specs.declared.Signals.{Signals}
-use Rattle.signals.specs.Signals.{restored}
+use Rattle.signals.specs.Signals.{restoredOutcome}
 use Rattle.check_values.specs.Vectors.{bitsMet}
 use borrow.Author.Needs.{needs}
 use Rattle.check_values.proofs.restored.is_restored.Statement.{statement}
@@ -9,13 +9,13 @@ use Rattle.check_values.proofs.restored.is_restored.Tie as tie
 
 returns : tie.Need-returns
 returns c =
-    let told = ap restored (sym (c .before .before .before .before .s .given .1)) ∙ c .before .before .before .before .before .before .signals-of-codes .ensures in
-    rw (c .before .before .has-bits .ensures, c .before .has-bits2 .ensures, c .has-bits3 .ensures) (ap (λ (o : Outcome Signals). bitsMet o (c .before .before .before .before .before .before .before .args .bits)) told)
+    let outcome = ap restoredOutcome (sym (c .before .before .before .before .s .given .1)) ∙ c .before .before .before .before .before .before .signals-of-codes .ensures in
+    rw (c .before .before .has-bits .ensures, c .before .has-bits2 .ensures, c .has-bits3 .ensures) (ap (λ (o : Outcome Signals). bitsMet o (c .before .before .before .before .before .before .before .args .bits)) outcome)
 
 returns-2 : tie.Need-returns-2
 returns-2 c =
-    let told = ap restored (sym (c .enum-told .given .1)) ∙ c .before .before .signals-of-codes .ensures in
-    ap (λ (o : Outcome Signals). bitsMet o (c .before .before .before .args .bits)) told
+    let outcome = ap restoredOutcome (sym (c .enum-told .given .1)) ∙ c .before .before .signals-of-codes .ensures in
+    ap (λ (o : Outcome Signals). bitsMet o (c .before .before .before .args .bits)) outcome
 
 pub is-restored-spec : {M : Type 1} → statement M
 is-restored-spec =

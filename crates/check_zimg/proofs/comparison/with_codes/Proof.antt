@@ -1,7 +1,7 @@
 use mathlib.Core.Path.{sym, ap, _∙_}
 use Rattle.exact.specs.Outcome.{Outcome}
 use Rattle.matrix.specs.declared.Clipped.{Clipped}
-use Rattle.matrix.specs.Triples.{toldCodes}
+use Rattle.matrix.specs.Triples.{codesOutcome}
 use Rattle.check_zimg.specs.Samples.{codesNear}
 use borrow.Author.Needs.{needs}
 use Rattle.check_zimg.proofs.comparison.with_codes.Statement.{statement}
@@ -10,15 +10,15 @@ use Rattle.check_zimg.proofs.comparison.with_codes.Tie as tie
 returns : tie.Need-returns
 returns c =
     let s = c .before .before .before .before .before .before .before .before .before .before .before .args in
-    let told = ap toldCodes (sym (c .before .before .before .before .before .before .before .before .clipped .given .1)) ∙ c .before .before .before .before .before .before .before .before .before .before .codes-of-words .ensures in
+    let outcome = ap codesOutcome (sym (c .before .before .before .before .before .before .before .before .clipped .given .1)) ∙ c .before .before .before .before .before .before .before .before .before .before .codes-of-words .ensures in
     rw (c .with3 .ensures, c .before .before .with2 .ensures, c .before .before .before .before .with .ensures, c .before .nominal3 .ensures, c .before .before .before .nominal2 .ensures, c .before .before .before .before .before .nominal .ensures)
-    (ap (λ (o : Outcome Clipped). codesNear (s .system) o (s .found) (s .theirs)) told)
+    (ap (λ (o : Outcome Clipped). codesNear (s .system) o (s .found) (s .theirs)) outcome)
 
 returns-2 : tie.Need-returns-2
 returns-2 c =
     let s = c .before .before .before .before .args in
-    let told = ap toldCodes (sym (c .before .enum-told .given .1)) ∙ c .before .before .before .codes-of-words .ensures in
-    c .off .ensures ∙ ap (λ (o : Outcome Clipped). codesNear (s .system) o (s .found) (s .theirs)) told
+    let outcome = ap codesOutcome (sym (c .before .enum-told .given .1)) ∙ c .before .before .before .codes-of-words .ensures in
+    c .off .ensures ∙ ap (λ (o : Outcome Clipped). codesNear (s .system) o (s .found) (s .theirs)) outcome
 
 pub with-codes-spec : {M : Type 1} → statement M
 with-codes-spec =

@@ -1,7 +1,7 @@
 use mathlib.Core.Path.{sym, ap, _∙_}
 use Rattle.exact.specs.Outcome.{Outcome}
 use Rattle.matrix.specs.declared.Words.{Words}
-use Rattle.matrix.specs.Triples.{toldWords}
+use Rattle.matrix.specs.Triples.{wordsOutcome}
 use Rattle.check_zimg.specs.Samples.{wordsNear}
 use borrow.Author.Needs.{needs}
 use Rattle.check_zimg.proofs.comparison.with_words.Statement.{statement}
@@ -9,13 +9,13 @@ use Rattle.check_zimg.proofs.comparison.with_words.Tie as tie
 
 returns : tie.Need-returns
 returns c =
-    let told = ap toldWords (sym (c .before .before .before .before .ours .given .1)) ∙ c .before .before .before .before .before .before .words-of-codes .ensures in
-    rw (c .with3 .ensures, c .before .with2 .ensures, c .before .before .with .ensures) (ap (λ (o : Outcome Words). wordsNear o (c .before .before .before .before .before .before .before .args .found) (c .before .before .before .before .before .before .before .args .theirs)) told)
+    let outcome = ap wordsOutcome (sym (c .before .before .before .before .ours .given .1)) ∙ c .before .before .before .before .before .before .words-of-codes .ensures in
+    rw (c .with3 .ensures, c .before .with2 .ensures, c .before .before .with .ensures) (ap (λ (o : Outcome Words). wordsNear o (c .before .before .before .before .before .before .before .args .found) (c .before .before .before .before .before .before .before .args .theirs)) outcome)
 
 returns-2 : tie.Need-returns-2
 returns-2 c =
-    let told = ap toldWords (sym (c .before .enum-told .given .1)) ∙ c .before .before .before .words-of-codes .ensures in
-    c .off .ensures ∙ ap (λ (o : Outcome Words). wordsNear o (c .before .before .before .before .args .found) (c .before .before .before .before .args .theirs)) told
+    let outcome = ap wordsOutcome (sym (c .before .enum-told .given .1)) ∙ c .before .before .before .words-of-codes .ensures in
+    c .off .ensures ∙ ap (λ (o : Outcome Words). wordsNear o (c .before .before .before .before .args .found) (c .before .before .before .before .args .theirs)) outcome
 
 pub with-words-spec : {M : Type 1} → statement M
 with-words-spec =

@@ -1,7 +1,7 @@
 use mathlib.Core.Path.{sym, ap, _∙_}
 use Rattle.exact.specs.Outcome.{Outcome}
 use Rattle.matrix.specs.declared.Clipped.{Clipped}
-use Rattle.matrix.specs.Triples.{toldCodes}
+use Rattle.matrix.specs.Triples.{codesOutcome}
 use Rattle.check_triples.specs.Cases.{codesAgree}
 use borrow.Author.Needs.{needs}
 use Rattle.check_triples.proofs.codes.Case.is_met.Statement.{statement}
@@ -9,13 +9,13 @@ use Rattle.check_triples.proofs.codes.Case.is_met.Tie as tie
 
 returns : tie.Need-returns
 returns c =
-    let told = ap toldCodes (sym (c .before .before .before .before .before .found .given .1)) ∙ c .before .before .before .before .before .before .before .codes-of-words .ensures in
-    rw (c .before .before .before .codes .ensures) (ap (λ (o : Outcome Clipped). codesAgree o (c .before .before .before .before .before .before .before .before .args .self)) told)
+    let outcome = ap codesOutcome (sym (c .before .before .before .before .before .found .given .1)) ∙ c .before .before .before .before .before .before .before .codes-of-words .ensures in
+    rw (c .before .before .before .codes .ensures) (ap (λ (o : Outcome Clipped). codesAgree o (c .before .before .before .before .before .before .before .before .args .self)) outcome)
 
 returns-2 : tie.Need-returns-2
 returns-2 c =
-    let told = ap toldCodes (sym (c .before .before .before .refusal .given .1)) ∙ c .before .before .before .before .before .codes-of-words .ensures in
-    rw (c .before .number .ensures) (ap (λ (o : Outcome Clipped). codesAgree o (c .before .before .before .before .before .before .args .self)) told)
+    let outcome = ap codesOutcome (sym (c .before .before .before .refusal .given .1)) ∙ c .before .before .before .before .before .codes-of-words .ensures in
+    rw (c .before .number .ensures) (ap (λ (o : Outcome Clipped). codesAgree o (c .before .before .before .before .before .before .args .self)) outcome)
 
 pub is-met-spec : {M : Type 1} → statement M
 is-met-spec =

@@ -6,34 +6,34 @@ use mathlib.Core.List.{List}
 use lib.Dec.{leb, eqb}
 use lib.ListN.{length, getD}
 use Rattle.systems.specs.declared.refusal.Refusal.the-variants as refusal
-use Rattle.systems.proofs.Tellable.{Tellable, values, tested, followed, named-tellable}
+use Rattle.systems.proofs.Answerable.{Answerable, values, tested, followed, named-answerable}
 use Rattle.block.specs.Read.{fieldAt, sectionAt, widthOk, sections, walk, sampleAt, nominalTo, headerOf}
 
-section-tellable : (bs : List ℕ) (i : ℕ) (good : ℕ → Bool) → Tellable (sectionAt bs i good)
-section-tellable bs i good =
+section-answerable : (bs : List ℕ) (i : ℕ) (good : ℕ → Bool) → Answerable (sectionAt bs i good)
+section-answerable bs i good =
     tested (leb (i + 2) (length bs)) refusal.BlockEnd
     (tested (good (fieldAt bs i)) refusal.Count
     (tested (leb (i + 2 + 2 * fieldAt bs i) (length bs)) refusal.BlockEnd (values _)))
 
-sections-tellable : (bs : List ℕ) → Tellable (sections bs)
+sections-answerable : (bs : List ℕ) → Answerable (sections bs)
 unfolding sections
-sections-tellable bs =
-    followed (section-tellable bs 3 widthOk) (λ w.
-    followed (section-tellable bs (5 + 2 * w) (eqb w)) (λ _.
-    followed (section-tellable bs (7 + 4 * w) (eqb w)) (λ _.
+sections-answerable bs =
+    followed (section-answerable bs 3 widthOk) (λ w.
+    followed (section-answerable bs (5 + 2 * w) (eqb w)) (λ _.
+    followed (section-answerable bs (7 + 4 * w) (eqb w)) (λ _.
     tested (eqb (length bs) (9 + 6 * w)) refusal.BytesAfter (values w))))
 
-walk-tellable : (bs : List ℕ) → Tellable (walk bs)
+walk-answerable : (bs : List ℕ) → Answerable (walk bs)
 unfolding walk
-walk-tellable bs =
+walk-answerable bs =
     tested (leb 3 (length bs)) refusal.BlockEnd
-    (followed (named-tellable (getD bs 0 0)) (λ y.
+    (followed (named-answerable (getD bs 0 0)) (λ y.
     tested (leb (fieldAt bs 1) 4319) refusal.RowNumber
-    (followed (sections-tellable bs) (λ w. values _))))
+    (followed (sections-answerable bs) (λ w. values _))))
 
-pub reading-tellable : (bs : List ℕ) (room : ℕ) → Tellable (headerOf bs room)
+pub reading-answerable : (bs : List ℕ) (room : ℕ) → Answerable (headerOf bs room)
 unfolding headerOf
-reading-tellable bs room =
-    followed (walk-tellable bs) (λ b.
+reading-answerable bs room =
+    followed (walk-answerable bs) (λ b.
     tested (nominalTo (b .system) (sampleAt bs (b .samples)) (b .samples)) refusal.Code
     (tested (leb (3 * b .samples) room) refusal.Output (values _)))

@@ -3,7 +3,7 @@
 use Prim.Native.Nat.{ℕ}
 use mathlib.Core.List.{List}
 use Rattle.picture.specs.declared.Picture.{Picture}
-use Rattle.picture.specs.Book.{Call, State, fresh, Heard, accepts, hears}
+use Rattle.picture.specs.Book.{Call, State, fresh, Answer, accepts, answers}
 use Rattle.picture.proofs.Picture.new.Statement as new-statement
 use Rattle.picture.proofs.Picture.new.Met as new-met
 use Rattle.picture.proofs.Picture.open.Statement as open-statement
@@ -22,22 +22,22 @@ use Rattle.picture.proofs.Demand.{demand-3}
 use Rattle.picture.proofs.Histories.{Lends, Happens, Answering, answering, every-list-happens}
 
 -- each `Post` of the card is that of a contract which the routine meets
-pub record Whole : Type 3 where
+pub record Theorem : Type 3 where
   pub new : {M : Type 1} → new-statement.statement M
   pub opens : {M : Type 1} → open-statement.statement M
   pub rows : {M : Type 1} → row-statement.statement M
   pub closes : {M : Type 1} → close-statement.statement M
   pub reads : {M : Type 1} → read-statement.statement M
   -- demand 3
-  pub lists : {cs : List Call} {hs : List Heard} {ls : List Lent} {q : Picture} → History card cs hs ls q → Demanded card fresh cs hs ls (stateOf (q .phase))
+  pub lists : {cs : List Call} {ans : List Answer} {ls : List Lent} {q : Picture} → History card cs ans ls q → Demanded card fresh cs ans ls (stateOf (q .phase))
   -- it speaks of every list of calls, whatever the lent buffers hold, and of every reading
   pub happens : {cs : List Call} {bs : List (List ℕ)} → Lends cs bs → Happens card cs bs
-  pub answers : Answering card
+  pub calls : Answering card
   -- the row book accepts a call exactly where none of its tables' conditions holds
-  pub book : (st : State) (c : Call) → Agree (accepts st c) (hears st c)
+  pub book : (st : State) (c : Call) → Agree (accepts st c) (answers st c)
 
-pub whole : Whole
-whole = record {
+pub theorem : Theorem
+theorem = record {
   new = new-met.met;
   opens = open-met.met;
   rows = row-met.met;
@@ -45,6 +45,6 @@ whole = record {
   reads = read-met.met;
   lists = demand-3;
   happens = every-list-happens answering;
-  answers = answering;
+  calls = answering;
   book = accepts-unless-a-condition-holds;
 }

@@ -1,4 +1,5 @@
--- Text that is put into a lent buffer, piece after piece. Definitions only.
+-- Inner definitions: text that is put into a lent buffer, piece after piece. Nothing here has to be believed.
+-- Definitions only.
 use Prim.Native.Nat.{ℕ, _+_, _*_, _≤_}
 use mathlib.Core.Path.{_≡_}
 use mathlib.Core.List.{List}

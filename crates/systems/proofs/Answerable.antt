@@ -13,28 +13,28 @@ use Rattle.systems.specs.declared.refusal.Refusal.the-variants as refusa
 use Rattle.systems.specs.Refusals as numbers
 use Rattle.systems.specs.Systems.{number, named, namedIn}
 
-pub data Tellable {A : Type 0} : Outcome A → Type 0 where
-  values : (a : A) → Tellable (accepted a)
-  refusing : (r : Refusal) → Tellable (refused (numbers.refusal r))
+pub data Answerable {A : Type 0} : Outcome A → Type 0 where
+  values : (a : A) → Answerable (accepted a)
+  refusing : (r : Refusal) → Answerable (refused (numbers.refusal r))
 
-pub tested : {A : Type 0} {o : Outcome A} (t : Bool) (r : Refusal) → Tellable o → Tellable (require t (numbers.refusal r) o)
+pub tested : {A : Type 0} {o : Outcome A} (t : Bool) (r : Refusal) → Answerable o → Answerable (require t (numbers.refusal r) o)
 tested true r o = o
 tested false r o = refusing r
 
-pub followed : {A B : Type 0} {o : Outcome A} {f : A → Outcome B} → Tellable o → ((a : A) → Tellable (f a)) → Tellable (o and-then f)
+pub followed : {A B : Type 0} {o : Outcome A} {f : A → Outcome B} → Answerable o → ((a : A) → Answerable (f a)) → Answerable (o and-then f)
 followed (values a) g = g a
 followed (refusing r) g = refusing r
 
-named-in-tellable : (ys : List System) (n : ℕ) → Tellable (namedIn ys n)
-named-in-tellable [] n = refusing refusal.System
-named-in-tellable (y ∷ ys) n = found (eqb n (number y)) (named-in-tellable ys n)
+named-in-answerable : (ys : List System) (n : ℕ) → Answerable (namedIn ys n)
+named-in-answerable [] n = refusing refusal.System
+named-in-answerable (y ∷ ys) n = found (eqb n (number y)) (named-in-answerable ys n)
   where
-    found : (t : Bool) → Tellable (namedIn ys n) → Tellable {A = System} (elim t [ true ↦ accepted y | false ↦ namedIn ys n ])
+    found : (t : Bool) → Answerable (namedIn ys n) → Answerable {A = System} (elim t [ true ↦ accepted y | false ↦ namedIn ys n ])
     found true k = values y
     found false k = k
 
-pub named-tellable : (n : ℕ) → Tellable (named n)
-named-tellable n = named-in-tellable (Bt709Bits8 ∷ Bt709Bits10 ∷ Bt2020Bits10 ∷ Bt2020Bits12 ∷ []) n
+pub named-answerable : (n : ℕ) → Answerable (named n)
+named-answerable n = named-in-answerable (Bt709Bits8 ∷ Bt709Bits10 ∷ Bt2020Bits10 ∷ Bt2020Bits12 ∷ []) n
 
 -- no refusal has the number 0, which stands for an accepted call in the C interface
 pub never-0 : (r : Refusal) → eqb (numbers.refusal r) 0 ≡ false

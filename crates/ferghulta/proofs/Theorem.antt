@@ -2,7 +2,7 @@
 -- Assumes nothing.
 use Prim.Native.Nat.{ℕ}
 use mathlib.Core.List.{List}
-use Rattle.picture.specs.Book.{Call, Heard, fresh}
+use Rattle.picture.specs.Book.{Call, Answer, fresh}
 use Rattle.picture.proofs.Calls.{Lent, Ran, History}
 use Rattle.picture.proofs.Claims.{Demanded}
 use Rattle.picture.proofs.Histories.{Lends, Happens, Answering, every-list-happens}
@@ -22,21 +22,21 @@ use Rattle.ferghulta.proofs.Exported.{stateAt, demand-3, from-any}
 use Rattle.ferghulta.proofs.Histories.{answering}
 
 -- each `Post` of the card is that of a contract which the routine meets
-pub record Whole : Type 3 where
+pub record Theorem : Type 3 where
   pub new : {M : Type 1} → new-statement.statement M
   pub opens : {M : Type 1} → open-statement.statement M
   pub rows : {M : Type 1} → row-statement.statement M
   pub closes : {M : Type 1} → close-statement.statement M
   pub reads : {M : Type 1} → read-statement.statement M
   -- demand 3, from a new picture and from any eight bytes
-  pub lists : {cs : List Call} {hs : List Heard} {ls : List Lent} {l : StoredPicture} → History card cs hs ls l → Demanded card fresh cs hs ls (stateAt l)
-  pub any : {k l : StoredPicture} {cs : List Call} {hs : List Heard} {ls : List Lent} → Ran card k cs hs ls l → Demanded card (stateAt k) cs hs ls (stateAt l)
+  pub lists : {cs : List Call} {ans : List Answer} {ls : List Lent} {l : StoredPicture} → History card cs ans ls l → Demanded card fresh cs ans ls (stateAt l)
+  pub any : {k l : StoredPicture} {cs : List Call} {ans : List Answer} {ls : List Lent} → Ran card k cs ans ls l → Demanded card (stateAt k) cs ans ls (stateAt l)
   -- it speaks of every list of calls, whatever the lent buffers hold, and of every reading
   pub happens : {cs : List Call} {bs : List (List ℕ)} → Lends cs bs → Happens card cs bs
   pub answers : Answering card
 
-pub whole : Whole
-whole = record {
+pub theorem : Theorem
+theorem = record {
   new = new-met.met;
   opens = open-met.met;
   rows = row-met.met;

@@ -1,4 +1,4 @@
--- The calls of the lists that reference/make_calls.py makes, what each is given, and whether its answer is the row book's.
+-- The calls of the lists that reference/make_pictures.py makes, what each is given, and whether its answer is the row book's.
 -- Definitions only.
 use Prim.Native.Nat.{ℕ, zero, suc, _+_, _*_, _-_, _/_, _<_}
 use mathlib.Core.Path.{_≡_}
@@ -15,7 +15,7 @@ use Rattle.picture.specs.declared.Phase.the-variants.{Fresh, Open, Closed}
 use Rattle.picture.specs.declared.Picture.{Picture}
 use Rattle.picture.specs.Picture.{at, opening, rowing, bufferAfter, closing}
 use Rattle.check_records.specs.declared.tally.Tally.{Tally}
-use Rattle.check_records.specs.Records.{u16At, u32At, ended}
+use Rattle.check_records.specs.Records.{u16At, u32At, none, tallied, ended}
 use Rattle.check_pictures.specs.declared.call.Call.{Call}
 
 -- the numbers of the call at a place
@@ -31,6 +31,10 @@ callAt bs i = record {
   second = u32At bs (i + 18);
   third = u32At bs (i + 22);
 }
+
+-- a call of this kind in which this refusal is due, or for 0 one that is accepted
+abbrev pub isOf : Call → ℕ → ℕ → Bool
+isOf c kind refusal = eqb (c .kind) kind && eqb (c .refusal) refusal
 
 -- the bytes of the block that is due, 0 where none is
 abbrev pub blockLength : Call → ℕ
@@ -111,6 +115,54 @@ readMet c lent due =
     (cond (leb (blockLength c) (length lent))
     (cond (leb (3 * c .samples) 23040) (readInto c (take (blockLength c) lent) (take (3 * c .samples) (replicate 23040 0)) due) false) false)
 
+-- the first n bytes are the same
+unfoldable pub sameTo : List ℕ → List ℕ → ℕ → Bool
+sameTo a b zero = true
+sameTo a b (suc n) = sameTo a b n && eqb (getD a n 0) (getD b n 0)
+
+abbrev pub beginAlike : List ℕ → List ℕ → ℕ → Bool
+beginAlike a b n = cond (leb n (length a)) (cond (leb n (length b)) (sameTo a b n) false) false
+
+-- the picture after an answer: one that is refused stays
+abbrev pub after : Outcome Picture → Picture → Picture
+after (accepted q) p = q
+after (refused n) p = p
+
+-- what the buffer has to hold after a block that is due: the block at its front, where it has room
+abbrev pub expected : List ℕ → List ℕ → List ℕ
+expected block due = cond (leb (length block) (length due)) (block ++ drop (length block) due) due
+
+-- the answer and the rows accepted of the picture after it are the book's
+abbrev pub answered : Call → Outcome Picture → Picture → Bool
+answered c answer p = agrees answer c && eqb (rowsOf (p .phase)) (c .rows)
+
+-- a call is met: its answer with the picture after it, the buffer as far as it was lent, and the reading of its block are the ones that are due
+unfoldable pub met : Call → Outcome Picture → Picture → List ℕ → List ℕ → List ℕ → Bool
+met c answer p lent due codes = answered c answer p && beginAlike lent due (room c) && readMet c lent codes
+
+-- what calls leave: the picture, the lent buffer, what that buffer has to hold, and the tally
+pub record State : Type 0 where
+  pub picture : Picture
+  pub lent : List ℕ
+  pub due : List ℕ
+  pub tally : Tally
+
+abbrev pub state : Picture → List ℕ → List ℕ → Tally → State
+state p lent due t = record { picture = p; lent = lent; due = due; tally = t }
+
+abbrev pub begun : List ℕ → List ℕ → State
+begun lent due = state (at Fresh) lent due none
+
+-- the state after a call and the bytes behind its numbers, the block and the codes that are due: it counts where it is of the kind and refusal
+-- in question
+unfoldable pub afterCall : Call → List ℕ → List ℕ → ℕ → ℕ → State → State
+afterCall c bs lights kind refusal s =
+    let answer = callAnswer c (s .picture) lights (s .lent) in
+    let p = after answer (s .picture) in
+    let lent = bufferOf c (s .picture) lights (s .lent) in
+    let due = expected (take (blockLength c) bs) (s .due) in
+    state p lent due (cond (isOf c kind refusal) (tallied (s .tally) (met c answer p lent due (drop (blockLength c) bs))) (s .tally))
+
 -- the bytes of a call: its numbers, the block that is due, and the codes that are due
 abbrev pub sizeOf : Call → ℕ
 sizeOf c = 26 + blockLength c + 12 * c .samples
@@ -123,11 +175,18 @@ place bs (suc n) = place bs n + sizeOf (callAt bs (place bs n))
 abbrev pub completeAt : List ℕ → ℕ → Bool
 completeAt bs at = leb (at + 26) (length bs) && leb (at + sizeOf (callAt bs at)) (length bs)
 
--- the calls are taken one behind the other, up to the first that is not there whole; bytes that are left are a call that is cut off, and it
--- differs
-pub record Played (bs : List ℕ) (t : Tally) : Type 0 where
+-- the state after the call at a place, and after the first n calls
+abbrev pub stateAfter : List ℕ → List ℕ → ℕ → ℕ → ℕ → State → State
+stateAfter bs lights kind refusal at s = afterCall (callAt bs at) (take (sizeOf (callAt bs at) - 26) (drop (at + 26) bs)) lights kind refusal s
+
+unfoldable pub stateTo : List ℕ → List ℕ → ℕ → ℕ → State → ℕ → State
+stateTo bs lights kind refusal s zero = s
+stateTo bs lights kind refusal s (suc n) = stateAfter bs lights kind refusal (place bs n) (stateTo bs lights kind refusal s n)
+
+-- the tally of all calls, from a state on: of those that are there whole, up to the first that is not; bytes that are left are a call that
+-- is cut off, and it differs
+pub record Compared (bs lights : List ℕ) (kind refusal : ℕ) (s : State) (t : Tally) : Type 0 where
   pub count : ℕ
   pub complete : (i : ℕ) → i < count → completeAt bs (place bs i) ≡ true
   pub no-more : completeAt bs (place bs count) ≡ false
-  pub before : Tally
-  pub tally : t ≡ ended before (length bs - place bs count)
+  pub tally : t ≡ ended (stateTo bs lights kind refusal s count .tally) (length bs - place bs count)

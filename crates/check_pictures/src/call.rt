@@ -1,12 +1,10 @@
 // A call of the lists: what it is given, and what it has to answer.
 ghost use mathlib.Core.Path.{_≡_};
-ghost use mathlib.Core.Bool.{_&&_};
 ghost use Prim.Native.Nat.{_+_, _≤_};
-ghost use lib.Dec.{eqb};
 ghost use lib.ListN.{length};
 ghost use Rattle.block.specs.Read.{headerOutcome};
 ghost use Rattle.picture.specs.Picture.{pictureOutcome};
-ghost use Rattle.check_pictures.specs.Calls.{callAt, blockLength, room, rowAnswer, rowBuffer, callAnswer, bufferOf, agrees, sameHeader, readAs};
+ghost use Rattle.check_pictures.specs.Calls.{callAt, isOf, blockLength, sizeOf, room, rowAnswer, rowBuffer, callAnswer, bufferOf, agrees, sameHeader, readAs};
 use block::BlockRead;
 use block::Header;
 use check_records::u16_at;
@@ -63,7 +61,7 @@ fn wide(x: u16) -> u32
 
 impl Call {
     pub fn is_of(self, kind: u16, refusal: u32) -> bool
-        ensures { λ r. ⌜ r ≡ (eqb (self .kind) kind && eqb (self .refusal) refusal) ⌝ }
+        ensures { λ r. ⌜ r ≡ isOf self kind refusal ⌝ }
     {
         (self.kind == kind) & (self.refusal == refusal)
     }
@@ -77,6 +75,13 @@ impl Call {
         } else {
             9 + 6 * (self.samples as usize)
         }
+    }
+
+    // The bytes of the call: its numbers, the block that is due, and the codes that are due.
+    pub fn size(self) -> usize
+        ensures { λ r. ⌜ (r ≡ sizeOf self) × (r ≤ 1179665) ⌝ }
+    {
+        26 + self.block_length() + 12 * (self.samples as usize)
     }
 
     // The length of the buffer that the call is lent.

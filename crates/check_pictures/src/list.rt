@@ -1,9 +1,11 @@
 // The lists of the file 'calls'.
 ghost use mathlib.Core.Path.{_≡_};
-ghost use mathlib.Core.Bool.{_&&_};
-ghost use lib.Dec.{eqb};
-ghost use Rattle.picture.specs.Picture.{pictureOutcome};
-ghost use Rattle.check_pictures.specs.Calls.{agrees, rowsOf, Played};
+ghost use Prim.Native.Nat.{_≤_};
+ghost use lib.ListN.{length, replicate};
+ghost use Rattle.picture.specs.declared.Phase.the-variants.{Fresh};
+ghost use Rattle.picture.specs.Picture.{at, pictureOutcome};
+ghost use Rattle.check_records.specs.Records.{none};
+ghost use Rattle.check_pictures.specs.Calls.{blockLength, rowsOf, after, expected, beginAlike, answered, met, completeAt, state, begun, afterCall, Compared};
 use crate::call;
 use crate::call::Call;
 use crate::reading;
@@ -12,17 +14,23 @@ use picture::Change;
 use picture::Phase;
 use picture::Picture;
 
+// What the calls so far left, beside the buffer, and their tally.
+struct Play {
+    picture: Picture,
+    tally: Tally,
+}
+
 // Compares the calls of a kind in which this refusal is due, or for 0 those that are accepted. A call that is cut off differs.
 pub fn compare(calls: &[u8], lights: &[u16], kind: u16, refusal: u32) -> Tally
-    ensures { λ r. ⌜ Played (now (calls .entry)) r ⌝ }
+    ensures { λ r. ⌜ Compared (now (calls .entry)) (now (lights .entry)) kind refusal (begun (replicate 46100 171) (replicate 46100 171)) r ⌝ }
 {
     let mut lent = [171u8; 46100];
     let mut due = [171u8; 46100];
-    played(calls, lights, kind, refusal, &mut lent, &mut due)
+    compare_with(calls, lights, kind, refusal, &mut lent, &mut due)
 }
 
 // Makes the calls in order, each with the picture and the buffer as the call before left them. due is what the buffer has to hold.
-fn played(
+fn compare_with(
     calls: &[u8],
     lights: &[u16],
     kind: u16,
@@ -30,33 +38,84 @@ fn played(
     lent: &mut [u8],
     due: &mut [u8],
 ) -> Tally
-    ensures { λ r. ⌜ Played (now (calls .entry)) r ⌝ }
+    ensures { λ r. ⌜ Compared (now (calls .entry)) (now (lights .entry)) kind refusal (begun (now (lent .entry)) (now (due .entry))) r ⌝ }
 {
-    let mut picture = Picture::new();
-    let mut tally = Tally::NONE;
+    let mut play = Play::begin();
     let mut at = 0;
-    while calls.len() - at >= 26 {
+    while holds_call(calls, at) {
         let call = call::call_at(calls, at);
-        let block = at + 26;
-        let codes = block + call.block_length();
-        let next = codes + 12 * (call.samples as usize);
-        if next > calls.len() {
-            return tally.ended(calls.len() - at);
-        }
-        let answer = call.answer(picture, lights, lent);
-        picture = kept(picture, answer);
-        expect_block(&calls[block..codes], due);
-        if call.is_of(kind, refusal) {
-            let same = is_met(call, answer, picture) && begin_alike(lent, due, call.room());
-            tally = tally.with(same && reading::is_met(call, lent, &calls[codes..next]));
-        }
-        at = next;
+        let size = call.size();
+        play = play.with(
+            call,
+            &calls[at + 26..at + size],
+            lights,
+            kind,
+            refusal,
+            lent,
+            due,
+        );
+        at += size;
     }
-    tally.ended(calls.len() - at)
+    play.tally.ended(calls.len() - at)
 }
 
-// The picture after an answer.
-fn kept(picture: Picture, answer: Change) -> Picture {
+impl Play {
+    fn begin() -> Play
+        ensures { λ r. ⌜ (r .picture ≡ at Fresh) × (r .tally ≡ none) ⌝ }
+    {
+        Play {
+            picture: Picture::new(),
+            tally: Tally::NONE,
+        }
+    }
+
+    // One call more, with the bytes behind its numbers: the block and the codes that are due. It counts where it is of this kind and
+    // refusal.
+    fn with(
+        self,
+        call: Call,
+        bytes: &[u8],
+        lights: &[u16],
+        kind: u16,
+        refusal: u32,
+        lent: &mut [u8],
+        due: &mut [u8],
+    ) -> Play
+        requires { ⌜ blockLength call ≤ length (now bytes) ⌝ }
+        ensures { λ r. ⌜ state (r .picture) (now (lent .exit)) (now (due .exit)) (r .tally) ≡ afterCall call (now (bytes .entry)) (now (lights .entry)) kind refusal (state (self .picture) (now (lent .entry)) (now (due .entry)) (self .tally)) ⌝ }
+    {
+        let tally = self.tally;
+        let length = call.block_length();
+        let answer = call.answer(self.picture, lights, lent);
+        let picture = after(answer, self.picture);
+        expect_block(&bytes[..length], due);
+        if call.is_of(kind, refusal) {
+            let met = is_met(call, answer, picture, lent, due, &bytes[length..]);
+            Play {
+                picture,
+                tally: tally.with(met),
+            }
+        } else {
+            Play { picture, tally }
+        }
+    }
+}
+
+// Whether a whole call stands at a place.
+fn holds_call(calls: &[u8], at: usize) -> bool
+    requires { ⌜ at ≤ length (now calls) ⌝ }
+    ensures { λ r. ⌜ r ≡ completeAt (now (calls .entry)) at ⌝ }
+{
+    if calls.len() - at < 26 {
+        return false;
+    }
+    at + call::call_at(calls, at).size() <= calls.len()
+}
+
+// The picture after an answer: one that is refused stays.
+fn after(answer: Change, picture: Picture) -> Picture
+    ensures { λ r. ⌜ r ≡ after (pictureOutcome answer) picture ⌝ }
+{
     match answer {
         Change::To(next) => next,
         Change::Refused(_) => picture,
@@ -64,26 +123,54 @@ fn kept(picture: Picture, answer: Change) -> Picture {
 }
 
 // Puts the block that is due to the front of what the buffer has to hold.
-fn expect_block(block: &[u8], due: &mut [u8]) {
+fn expect_block(block: &[u8], due: &mut [u8])
+    ensures { λ _. ⌜ now (due .exit) ≡ expected (now (block .entry)) (now (due .entry)) ⌝ }
+{
     if block.len() <= due.len() {
         bytes::copy(block, due);
     }
 }
 
+// Whether the answer, the rows accepted, the buffer and the reading are the ones that are due.
+fn is_met(
+    call: Call,
+    answer: Change,
+    picture: Picture,
+    lent: &[u8],
+    due: &[u8],
+    codes: &[u8],
+) -> bool
+    ensures { λ r. ⌜ r ≡ met call (pictureOutcome answer) picture (now (lent .entry)) (now (due .entry)) (now (codes .entry)) ⌝ }
+{
+    is_answered(call, answer, picture)
+        & begin_alike(lent, due, call.room())
+        & reading::is_met(call, lent, codes)
+}
+
 // Whether the answer and the rows accepted of the picture after it are the book's.
-fn is_met(call: Call, answer: Change, picture: Picture) -> bool
-    ensures { λ r. ⌜ r ≡ (agrees (pictureOutcome answer) call && eqb (rowsOf (picture .phase)) (call .rows)) ⌝ }
+fn is_answered(call: Call, answer: Change, picture: Picture) -> bool
+    ensures { λ r. ⌜ r ≡ answered call (pictureOutcome answer) picture ⌝ }
 {
     call.has(answer) & (rows_of(picture) == call.rows)
 }
 
 // Whether as many bytes as there is room are the same.
-fn begin_alike(lent: &[u8], due: &[u8], room: usize) -> bool {
-    if room <= lent.len() && room <= due.len() {
-        check::same(&lent[..room], &due[..room])
-    } else {
-        false
+fn begin_alike(lent: &[u8], due: &[u8], room: usize) -> bool
+    ensures { λ r. ⌜ r ≡ beginAlike (now (lent .entry)) (now (due .entry)) room ⌝ }
+{
+    if room > lent.len() {
+        return false;
     }
+    if room > due.len() {
+        return false;
+    }
+    let mut same = true;
+    let mut i = 0;
+    while i < room {
+        same = same & (lent[i] == due[i]);
+        i += 1;
+    }
+    same
 }
 
 fn rows_of(picture: Picture) -> u16

@@ -115,20 +115,20 @@ readMet c lent due =
     (cond (leb (blockLength c) (length lent))
     (cond (leb (3 * c .samples) 23040) (readInto c (take (blockLength c) lent) (take (3 * c .samples) (replicate 23040 0)) due) false) false)
 
--- the first n bytes are the same
+-- the first n bytes are the same, and they are there
 unfoldable pub sameTo : List ℕ → List ℕ → ℕ → Bool
 sameTo a b zero = true
 sameTo a b (suc n) = sameTo a b n && eqb (getD a n 0) (getD b n 0)
 
 abbrev pub beginAlike : List ℕ → List ℕ → ℕ → Bool
-beginAlike a b n = cond (leb n (length a)) (cond (leb n (length b)) (sameTo a b n) false) false
+beginAlike a b n = leb n (length a) && leb n (length b) && sameTo a b n
 
 -- the picture after an answer: one that is refused stays
 abbrev pub after : Outcome Picture → Picture → Picture
 after (accepted q) p = q
 after (refused n) p = p
 
--- what the buffer has to hold after a block that is due: the block at its front, where it has room
+-- what the buffer has to hold once a block is due: the block at its front, where it has room for it
 abbrev pub expected : List ℕ → List ℕ → List ℕ
 expected block due = cond (leb (length block) (length due)) (block ++ drop (length block) due) due
 
@@ -136,7 +136,7 @@ expected block due = cond (leb (length block) (length due)) (block ++ drop (leng
 abbrev pub answered : Call → Outcome Picture → Picture → Bool
 answered c answer p = agrees answer c && eqb (rowsOf (p .phase)) (c .rows)
 
--- a call is met: its answer with the picture after it, the buffer as far as it was lent, and the reading of its block are the ones that are due
+-- a call is met: in its answer and the picture after it, in the buffer as far as it was lent, and in the reading of its block
 unfoldable pub met : Call → Outcome Picture → Picture → List ℕ → List ℕ → List ℕ → Bool
 met c answer p lent due codes = answered c answer p && beginAlike lent due (room c) && readMet c lent codes
 
@@ -153,8 +153,7 @@ state p lent due t = record { picture = p; lent = lent; due = due; tally = t }
 abbrev pub begun : List ℕ → List ℕ → State
 begun lent due = state (at Fresh) lent due none
 
--- the state after a call and the bytes behind its numbers, the block and the codes that are due: it counts where it is of the kind and refusal
--- in question
+-- the state after a call, with the bytes behind its numbers: it counts where its kind and refusal are the ones in question
 unfoldable pub afterCall : Call → List ℕ → List ℕ → ℕ → ℕ → State → State
 afterCall c bs lights kind refusal s =
     let answer = callAnswer c (s .picture) lights (s .lent) in
@@ -183,8 +182,7 @@ unfoldable pub stateTo : List ℕ → List ℕ → ℕ → ℕ → State → ℕ
 stateTo bs lights kind refusal s zero = s
 stateTo bs lights kind refusal s (suc n) = stateAfter bs lights kind refusal (place bs n) (stateTo bs lights kind refusal s n)
 
--- the tally of all calls, from a state on: of those that are there whole, up to the first that is not; bytes that are left are a call that
--- is cut off, and it differs
+-- the tally of the calls from a state on, up to the first that is not there whole; bytes that are left are a call that is cut off: it differs
 pub record Compared (bs lights : List ℕ) (kind refusal : ℕ) (s : State) (t : Tally) : Type 0 where
   pub count : ℕ
   pub complete : (i : ℕ) → i < count → completeAt bs (place bs i) ≡ true

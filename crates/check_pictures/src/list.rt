@@ -2,9 +2,7 @@
 ghost use mathlib.Core.Path.{_≡_};
 ghost use Prim.Native.Nat.{_≤_};
 ghost use lib.ListN.{length, replicate};
-ghost use Rattle.picture.specs.declared.Phase.the-variants.{Fresh};
-ghost use Rattle.picture.specs.Picture.{at, pictureOutcome};
-ghost use Rattle.check_records.specs.Records.{none};
+ghost use Rattle.picture.specs.Picture.{pictureOutcome};
 ghost use Rattle.check_pictures.specs.Calls.{blockLength, rowsOf, after, expected, beginAlike, answered, met, completeAt, state, begun, afterCall, Compared};
 use crate::call;
 use crate::call::Call;
@@ -14,7 +12,7 @@ use picture::Change;
 use picture::Phase;
 use picture::Picture;
 
-// What the calls so far left, beside the buffer, and their tally.
+// The picture that the calls so far left, and their tally.
 struct Play {
     picture: Picture,
     tally: Tally,
@@ -40,7 +38,10 @@ fn compare_with(
 ) -> Tally
     ensures { λ r. ⌜ Compared (now (calls .entry)) (now (lights .entry)) kind refusal (begun (now (lent .entry)) (now (due .entry))) r ⌝ }
 {
-    let mut play = Play::begin();
+    let mut play = Play {
+        picture: Picture::new(),
+        tally: Tally::NONE,
+    };
     let mut at = 0;
     while holds_call(calls, at) {
         let call = call::call_at(calls, at);
@@ -60,17 +61,7 @@ fn compare_with(
 }
 
 impl Play {
-    fn begin() -> Play
-        ensures { λ r. ⌜ (r .picture ≡ at Fresh) × (r .tally ≡ none) ⌝ }
-    {
-        Play {
-            picture: Picture::new(),
-            tally: Tally::NONE,
-        }
-    }
-
-    // One call more, with the bytes behind its numbers: the block and the codes that are due. It counts where it is of this kind and
-    // refusal.
+    // One call more. The bytes behind its numbers are the block and the codes that are due.
     fn with(
         self,
         call: Call,

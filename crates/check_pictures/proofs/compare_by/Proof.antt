@@ -1,5 +1,3 @@
--- `calls::compare_by` is safe. The lights are the front of the slice that they were put into.
--- Assumes nothing.
 use mathlib.Core.Path.{sym}
 use native.Mathlib.Omega.{arith}
 use lib.Seq.{length-take-le}

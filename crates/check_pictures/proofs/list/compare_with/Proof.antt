@@ -18,7 +18,7 @@ abbrev μ-loop : tie.MeasureT-loop
 μ-loop calls lights kind refusal lent₀ due₀ play₀ at₀ lent due play at = length calls - at
 
 loop-holds : tie.Need-loop-holds Inv-loop μ-loop
-loop-holds c = (search needs, rw (c .begin .ensures .0, c .begin .ensures .1) (none-yet _ _ _ _ _))
+loop-holds c = (search needs, rw (c .new .ensures) (none-yet _ _ _ _ _))
 
 holds-call-requires : tie.Need-holds-call-requires Inv-loop μ-loop
 holds-call-requires c κs = c .loop .inv .1 .within

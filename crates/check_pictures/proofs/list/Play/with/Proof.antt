@@ -15,15 +15,18 @@ slice-aggregate-expect-block c = sym (length-take-le _ _ (search needs))
 returns : tie.Need-returns
 unfolding afterCall
 returns c =
-    let s = c .before .before .before .before .before .before .before .before .before .before .before .before .before .before .before .before .before .before .before .before .before .before .before .args in
+    let t = c .before .before .before .before .before .before in
+    let s = t .before .before .before .before .before .before .before .before .before .before .before .before .before .before .before .before .before .args in
     let bytes = now (s .bytes) in
     let n = blockLength (s .call) in
     let rest : take (length bytes - n) (drop n bytes) ≡ drop n bytes = take-all (length bytes - n) (drop n bytes) (omega (arith, length-drop n bytes)) in
-    rw (sym (c .before .before .before .before .before .before .is-of .ensures) ∙ c .before .before .before .before .before .if1 .taken, c .with .ensures, c .before .is-met .ensures, c .before .before .before .before .before .before .before .before .before .expect-block .ensures, c .before .before .before .before .before .before .before .before .before .before .before .before .after .ensures, c .before .before .before .before .before .before .before .before .before .before .before .before .before .before .before .answer .ensures .0, c .before .before .before .before .before .before .before .before .before .before .before .before .before .before .before .answer .ensures .1, c .before .before .before .before .before .before .before .before .before .before .before .before .before .before .before .before .before .block-length .ensures .0, rest)
+    rw (sym (t .is-of .ensures) ∙ c .before .before .before .before .before .if1 .taken, c .with .ensures, c .before .is-met .ensures, t .before .before .before .expect-block .ensures, t .before .before .before .before .before .before .after .ensures, t .before .before .before .before .before .before .before .before .before .answer .ensures .0, t .before .before .before .before .before .before .before .before .before .answer .ensures .1, t .before .before .before .before .before .before .before .before .before .before .before .block-length .ensures .0, rest)
 
 returns-2 : tie.Need-returns-2
 unfolding afterCall
-returns-2 c = rw (sym (c .before .is-of .ensures) ∙ c .if1 .left, c .before .before .before .before .expect-block .ensures, c .before .before .before .before .before .before .before .after .ensures, c .before .before .before .before .before .before .before .before .before .before .answer .ensures .0, c .before .before .before .before .before .before .before .before .before .before .answer .ensures .1, c .before .before .before .before .before .before .before .before .before .before .before .before .block-length .ensures .0)
+returns-2 c =
+    let t = c .before in
+    rw (sym (t .is-of .ensures) ∙ c .if1 .left, t .before .before .before .expect-block .ensures, t .before .before .before .before .before .before .after .ensures, t .before .before .before .before .before .before .before .before .before .answer .ensures .0, t .before .before .before .before .before .before .before .before .before .answer .ensures .1, t .before .before .before .before .before .before .before .before .before .before .before .block-length .ensures .0)
 
 pub with-spec : {M : Type 1} → statement M
 with-spec =

@@ -1,4 +1,4 @@
--- The records of the files that reference/make_vectors.py makes, and whether the conversion agrees with them. Definitions only.
+-- The records of the files that reference/make_values.py makes, and whether the conversion agrees with them. Definitions only.
 use Prim.Native.Nat.{ℕ, zero, suc, _+_, _*_, _-_, _/_, _%_, _^_}
 use mathlib.Core.Bool.{Bool, false, _&&_, not, cond}
 use mathlib.Core.List.{List}

@@ -1,6 +1,6 @@
 -- The calls of the lists that reference/make_pictures.py makes, what each is given, and whether its answer is the row book's.
 -- Definitions only.
-use Prim.Native.Nat.{ℕ, zero, suc, _+_, _*_, _-_, _/_, _<_}
+use Prim.Native.Nat.{ℕ, zero, suc, _+_, _*_, _-_, _/_, _≤_, _<_}
 use mathlib.Core.Path.{_≡_}
 use mathlib.Core.Bool.{Bool, true, false, _&&_, cond}
 use mathlib.Core.List.{List, [], _∷_, _++_}
@@ -172,7 +172,7 @@ place bs zero = 0
 place bs (suc n) = place bs n + sizeOf (callAt bs (place bs n))
 
 abbrev pub completeAt : List ℕ → ℕ → Bool
-completeAt bs at = leb (at + 26) (length bs) && leb (at + sizeOf (callAt bs at)) (length bs)
+completeAt bs at = leb (at + sizeOf (callAt bs at)) (length bs)
 
 -- the state after the call at a place, and after the first n calls
 abbrev pub stateAfter : List ℕ → List ℕ → ℕ → ℕ → ℕ → State → State
@@ -182,9 +182,9 @@ unfoldable pub stateTo : List ℕ → List ℕ → ℕ → ℕ → State → ℕ
 stateTo bs lights kind refusal s zero = s
 stateTo bs lights kind refusal s (suc n) = stateAfter bs lights kind refusal (place bs n) (stateTo bs lights kind refusal s n)
 
--- the tally of the calls from a state on, up to the first that is not there whole; bytes that are left are a call that is cut off: it differs
+-- the tally of the calls that are there whole, from a state on; bytes that are left are a call that is cut off, and it differs
 pub record Compared (bs lights : List ℕ) (kind refusal : ℕ) (s : State) (t : Tally) : Type 0 where
   pub count : ℕ
-  pub complete : (i : ℕ) → i < count → completeAt bs (place bs i) ≡ true
-  pub no-more : completeAt bs (place bs count) ≡ false
+  pub whole : place bs count ≤ length bs
+  pub no-more : length bs < place bs (suc count)
   pub tally : t ≡ ended (stateTo bs lights kind refusal s count .tally) (length bs - place bs count)

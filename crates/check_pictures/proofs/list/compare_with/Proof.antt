@@ -1,12 +1,12 @@
 use Prim.Native.Nat.{_+_, _-_, _≤_}
 use mathlib.Core.Path.{_≡_, sym, ap, _∙_}
-use mathlib.Core.Bool.{true}
 use native.Mathlib.Omega.{arith}
 use lib.ListN.{length, length-take, length-drop}
 use denote.Ref.{now}
 use borrow.Author.Needs.{needs}
-use Rattle.check_pictures.specs.Calls.{callAt, sizeOf, completeAt, state, begun}
-use Rattle.check_pictures.proofs.Walked.{SoFar, none-yet, one-more, all-counted, complete-fits}
+use borrow.Author.Tests.{leb-true, leb-false}
+use Rattle.check_pictures.specs.Calls.{callAt, sizeOf, state, begun}
+use Rattle.check_pictures.proofs.Walked.{SoFar, none-yet, one-more, all-counted}
 use Rattle.check_pictures.proofs.list.compare_with.Statement.{statement}
 use Rattle.check_pictures.proofs.list.compare_with.Tie as tie
 
@@ -24,17 +24,17 @@ holds-call-requires : tie.Need-holds-call-requires Inv-loop μ-loop
 holds-call-requires c κs = c .loop .inv .1 .within
 
 -- the call at the loop's place is whole
-whole : (c : tie.Then1 Inv-loop μ-loop) → completeAt (now (c .before .before .before .before .before .before .before .before .args .calls)) (c .before .before .loop .at) ≡ true
-whole c = sym (c .before .holds-call .ensures) ∙ c .if1 .taken
+whole : (c : tie.Then1 Inv-loop μ-loop) → c .before .before .loop .at + sizeOf (callAt (now (c .before .before .before .before .before .before .before .before .args .calls)) (c .before .before .loop .at)) ≤ length (now (c .before .before .before .before .before .before .before .before .args .calls))
+whole c = leb-true _ _ (sym (c .before .holds-call .ensures) ∙ c .if1 .taken)
 
 sized : (c : tie.After-size Inv-loop μ-loop) → c .size .result ≡ sizeOf (callAt (now (c .before .before .before .before .before .before .before .before .before .before .args .calls)) (c .before .before .before .before .loop .at))
 sized c = c .size .ensures .0 ∙ ap sizeOf (c .before .call-at .ensures)
 
 within : (c : tie.After-size Inv-loop μ-loop) → c .before .before .before .before .loop .at + c .size .result ≤ length (now (c .before .before .before .before .before .before .before .before .before .before .args .calls))
-within c = rw (sized c) (complete-fits (now (c .before .before .before .before .before .before .before .before .before .before .args .calls)) (c .before .before .before .before .loop .at) (whole (c .before .before)) .1)
+within c = rw (sized c) (whole (c .before .before))
 
 call-at-requires : tie.Need-call-at-requires Inv-loop μ-loop
-call-at-requires c κs = complete-fits (now (c .before .before .before .before .before .before .before .before .args .calls)) (c .before .before .loop .at) (whole c) .0
+call-at-requires c κs = omega (arith, whole c)
 
 add-with : tie.Need-add-with Inv-loop μ-loop
 add-with c = omega (arith, within c, c .size .ensures .0)
@@ -58,20 +58,22 @@ add-at : tie.Need-add-at Inv-loop μ-loop
 add-at c = add-with-2 (c .before .before .before .before .before .before .before .before)
 
 loop-less : tie.Need-loop-less Inv-loop μ-loop
-loop-less c = omega (arith, within (c .before .before .before .before .before .before .before .before), c .before .before .before .before .before .before .before .before .size .ensures .0)
+loop-less c =
+    let t = c .before .before .before .before .before .before .before .before in
+    omega (arith, within t, t .size .ensures .0)
 
 loop-again : tie.Need-loop-again Inv-loop μ-loop
 loop-again c =
-    let bs = now (c .before .before .before .before .before .before .before .before .before .before .before .before .before .before .before .before .before .before .args .calls) in
-    let i = c .before .before .before .before .before .before .before .before .before .before .before .before .loop .at in
-    let n : (i + c .before .before .before .before .before .before .before .before .size .result) - (i + 26) ≡ sizeOf (callAt bs i) - 26 = omega (arith, sized (c .before .before .before .before .before .before .before .before)) in
-    (search needs, one-more (c .before .before .before .before .before .before .before .before .before .before .before .before .loop .inv .1) _ (whole (c .before .before .before .before .before .before .before .before .before .before)) (sized (c .before .before .before .before .before .before .before .before)) (rw (n, c .before .before .before .before .before .before .before .before .before .call-at .ensures) at (c .before .before .before .before .with .ensures)))
+    let t = c .before .before .before .before .before .before .before .before in
+    let l = t .before .before .before .before .loop in
+    let n : (l .at + t .size .result) - (l .at + 26) ≡ sizeOf (callAt (now (t .before .before .before .before .before .before .before .before .before .before .args .calls)) (l .at)) - 26 = omega (arith, sized t) in
+    (search needs, one-more (l .inv .1) _ (within t) (sized t) (rw (n, t .before .call-at .ensures) at (c .before .before .before .before .with .ensures)))
 
 sub-ended : tie.Need-sub-ended Inv-loop μ-loop
 sub-ended c = c .before .before .loop .inv .1 .within
 
 returns : tie.Need-returns Inv-loop μ-loop
-returns c = all-counted (c .before .before .before .loop .inv .1) (sym (c .before .before .holds-call .ensures) ∙ c .before .if1 .left) (c .ended .ensures)
+returns c = all-counted (c .before .before .before .loop .inv .1) (leb-false _ _ (sym (c .before .before .holds-call .ensures) ∙ c .before .if1 .left)) (c .ended .ensures)
 
 pub compare-with-spec : {M : Type 1} → statement M
 compare-with-spec =

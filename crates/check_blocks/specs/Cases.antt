@@ -1,5 +1,5 @@
 -- The cases of the file that reference/make_blocks.py makes, and whether reading agrees with them. Definitions only.
-use Prim.Native.Nat.{ℕ, zero, suc, _+_, _*_, _-_, _/_, _%_, _<_}
+use Prim.Native.Nat.{ℕ, zero, suc, _+_, _*_, _-_, _/_, _%_, _≤_, _<_}
 use mathlib.Core.Path.{_≡_}
 use mathlib.Core.Bool.{Bool, true, false, _&&_, cond}
 use mathlib.Core.List.{List, [], _∷_, _++_}
@@ -69,7 +69,7 @@ place bs (suc n) = place bs n + sizeOf (caseAt bs (place bs n))
 
 -- a whole case stands at a place
 abbrev pub completeAt : List ℕ → ℕ → Bool
-completeAt bs at = leb (at + 16) (length bs) && leb (at + sizeOf (caseAt bs at)) (length bs)
+completeAt bs at = leb (at + sizeOf (caseAt bs at)) (length bs)
 
 -- the tally after a case and the bytes behind its numbers: it counts where its refusal is the one in question
 abbrev pub caseTallied : Case → List ℕ → ℕ → Tally → Tally
@@ -83,9 +83,9 @@ unfoldable pub tallyTo : List ℕ → ℕ → ℕ → Tally
 tallyTo bs refusal zero = none
 tallyTo bs refusal (suc n) = talliedAt bs refusal (place bs n) (tallyTo bs refusal n)
 
--- the tally of all cases: of those that are there whole, up to the first that is not; bytes that are left are a case that is cut off
+-- the tally of the cases that are there whole; bytes that are left are a case that is cut off, and it differs
 pub record Compared (bs : List ℕ) (refusal : ℕ) (t : Tally) : Type 0 where
   pub count : ℕ
-  pub complete : (i : ℕ) → i < count → completeAt bs (place bs i) ≡ true
-  pub no-more : completeAt bs (place bs count) ≡ false
+  pub whole : place bs count ≤ length bs
+  pub no-more : length bs < place bs (suc count)
   pub tally : t ≡ ended (tallyTo bs refusal count) (length bs - place bs count)

@@ -115,7 +115,7 @@ readMet c lent due =
     (cond (leb (blockLength c) (length lent))
     (cond (leb (3 * c .samples) 23040) (readInto c (take (blockLength c) lent) (take (3 * c .samples) (replicate 23040 0)) due) false) false)
 
--- the first n bytes are the same, and they are there
+-- the first n bytes of two buffers are there and the same
 unfoldable pub sameTo : List ℕ → List ℕ → ℕ → Bool
 sameTo a b zero = true
 sameTo a b (suc n) = sameTo a b n && eqb (getD a n 0) (getD b n 0)

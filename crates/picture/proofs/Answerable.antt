@@ -1,4 +1,4 @@
--- What a call on a picture, or a reading, comes to can always be outcome.
+-- What a call on a picture, or a reading, comes to can always be answered.
 -- Assumes nothing.
 use Prim.Native.Nat.{ℕ, _*_}
 use mathlib.Core.Path.{_≡_, refl}

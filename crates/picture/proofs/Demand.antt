@@ -28,7 +28,7 @@ use Rattle.picture.proofs.Card.{answerOf, labelOf, Opens, by-open, Rows
 use Rattle.picture.proofs.Claims.{ReadsBack, Blocks, none, one, ifAccepted, acceptedRows, Unchanged, stateOf, stateFrom, Demanded, Proper}
 use Rattle.picture.proofs.Faithful.{Follows, Faithful}
 use Rattle.picture.proofs.Rows.{reads-back}
-use Rattle.picture.proofs.Steps.{InStep, open-step, row-step, close-step}
+use Rattle.picture.proofs.Steps.{InStep, StepsTo, open-step, row-step, close-step}
 
 -- ---- what a row leaves in its buffer
 
@@ -109,6 +109,9 @@ on-phase : {p p′ : Picture} {answer : Answer} (o : Outcome Phase) → Follows 
 on-phase (outcome.accepted f) s = rw (s .same, s .next) record { same = refl; next = refl }
 on-phase (outcome.refused n) s = rw (s .same, s .next) record { same = refl; next = refl }
 
+in-step : {f f′ : Phase} {o : Outcome Phase} {c : Call} {answer : Answer} → Follows f o answer f′ → StepsTo f c o → InStep f c answer f′
+in-step s t = rw (s .same, s .next) t
+
 no-entry : (t : Bool) → choose {A = List Entry} t [] [] ≡ []
 no-entry true = refl
 no-entry false = refl
@@ -123,21 +126,21 @@ module _ {card : Card} (does : Faithful card) where
   pub run : {k l : card .Picture} {cs : List Call} {ans : List Answer} {ls : List Lent} → Proper (at-phase k) → Ran card k cs ans ls l → After card (at-phase k) cs ans ls (at-phase l)
   unfolding answersFrom entriesFrom stateFrom acceptedRows Unchanged
   run g ends = record { demanded = record { answer = refl; state = refl; unchanged = tt; blocks = none }; proper = g }
-  run {k} g (after-open {p′ = k′} {n = n} {w = w} {h = h} {answer = answer} call rest) =
+  run {k} g (after-open {n = n} {w = w} {h = h} call rest) =
       let s = on-phase (openFrom (at-phase k) n w h) (does .opens call) in
-      let i : InStep (at-phase k) (opens n w h) answer (at-phase k′) = rw (s .same, s .next) (open-step (at-phase k) n w h) in
+      let i = in-step s (open-step (at-phase k) n w h) in
       call-then i (no-entry (accepts (stateOf (at-phase k)) (opens n w h))) (run (i .stays g) rest)
-  run {k} g (after-row {p′ = k′} {lights = lights} {out = out} {out′ = out′} {answer = answer} lit call rest) =
+  run {k} g (after-row {lights = lights} {out = out} {out′ = out′} {answer = answer} lit call rest) =
       let left = does .rows call .1 in
       let s = on-phase (rowFrom (at-phase k) lights (length out)) (does .rows call .0) in
       let c : Call = rows lights (length out) in
-      let i : InStep (at-phase k) c answer (at-phase k′) = rw (s .same, s .next) (row-step (at-phase k) lights (length out)) in
+      let i = in-step s (row-step (at-phase k) lights (length out)) in
       let u : (n : ℕ) → answer ≡ refused n → out′ ≡ out = rw (s .same, left) (row-leaves (at-phase k) lights out) in
       let b : Blocks card (ifAccepted answer (record { answer = answer; before = out; after = out′ })) (entered (stateOf (at-phase k)) c) = rw (s .same, left) (row-keeps does (at-phase k) lights out g lit) in
       row-then i u b (run (i .stays g) rest)
-  run {k} g (after-close {p′ = k′} {answer = answer} call rest) =
+  run {k} g (after-close call rest) =
       let s = on-phase (closeFrom (at-phase k)) (does .closes call) in
-      let i : InStep (at-phase k) closes answer (at-phase k′) = rw (s .same, s .next) (close-step (at-phase k)) in
+      let i = in-step s (close-step (at-phase k)) in
       call-then i (no-entry (accepts (stateOf (at-phase k)) closes)) (run (i .stays g) rest)
 
   from-fresh : {cs : List Call} {ans : List Answer} {ls : List Lent} {l : card .Picture} → History card cs ans ls l → After card Fresh cs ans ls (at-phase l)

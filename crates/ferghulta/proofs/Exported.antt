@@ -13,8 +13,8 @@ use Rattle.systems.proofs.Answerable.{Answerable, values, refusing, never-0}
 use Rattle.block.specs.declared.Header.{Header}
 use Rattle.block.specs.Read.{headerOf, sliceAfter}
 use Rattle.block.proofs.Answerable.{reading-answerable}
-use Rattle.picture.specs.declared.Picture.{Picture}
-use Rattle.picture.specs.Picture.{opening, rowing, bufferAfter, closing}
+use Rattle.picture.specs.declared.Phase.{Phase}
+use Rattle.picture.specs.Picture.{at, around, opening, rowing, bufferAfter, closing}
 use Rattle.picture.specs.Book.{Call, State, fresh, Answer}
 use Rattle.picture.proofs.Calls.{Label, Lent, Ran, History}
 use Rattle.picture.proofs.Card.{leads, labelOf}
@@ -31,10 +31,10 @@ use Rattle.ferghulta.specs.Stored.{pictureOf, pictureAnswer}
 use Rattle.ferghulta.proofs.Card.{answerIf, answerBy, labelIf, labelBy, Opens, by-open, Rows, by-row, Closes, by-close, Reads, by-read-block, card}
 use Rattle.ferghulta.proofs.Stored.{stored-returns, taken-proper}
 
--- a call on k whose outcome on its picture is o
-follows : (k : StoredPicture) {o : Outcome Picture} {a : PictureAnswer} → Answerable o → Proper (leads (pictureOf k) o .phase) → a ≡ pictureAnswer k o
-    → Follows (pictureOf k) o (answerBy a) (pictureOf (a .picture))
-follows k (values p) g e = record { same = ap answerBy e; next = ap (λ (x : PictureAnswer). pictureOf (x .picture)) e ∙ stored-returns p g }
+-- a call on k whose outcome on the phase is o
+follows : (k : StoredPicture) {o : Outcome Phase} {a : PictureAnswer} → Answerable o → Proper (leads (pictureOf k .phase) o) → a ≡ pictureAnswer k (around o)
+    → Follows (pictureOf k) (around o) (answerBy a) (pictureOf (a .picture))
+follows k (values f) g e = record { same = ap answerBy e; next = ap (λ (x : PictureAnswer). pictureOf (x .picture)) e ∙ stored-returns (at f) g }
 follows k (refusing r) g e = record {
   same = ap answerBy e ∙ ap (λ (b : Bool). answerIf b (refusal r)) (never-0 r);
   next = ap (λ (x : PictureAnswer). pictureOf (x .picture)) e;

@@ -10,7 +10,7 @@ use Rattle.picture.specs.declared.Opened.{Opened}
 use Rattle.picture.specs.declared.Phase.{Phase}
 use Rattle.picture.specs.declared.Phase.the-variants.{Fresh, Open, Closed}
 use Rattle.picture.specs.declared.Picture.{Picture}
-use Rattle.picture.specs.Picture.{resumed}
+use Rattle.picture.specs.Picture.{at, resumed}
 use Rattle.ferghulta.specs.declared.stored_picture.StoredPicture.{StoredPicture}
 use Rattle.ferghulta.specs.declared.picture_calls.PictureAnswer.{PictureAnswer}
 
@@ -49,7 +49,7 @@ abbrev pub phaseOf : StoredPicture → Phase
 phaseOf k = phaseBy k (eqb (k .phase) 1) (eqb (k .phase) 2)
 
 abbrev pub pictureOf : StoredPicture → Picture
-pictureOf k = resumed (phaseOf k)
+pictureOf k = at (resumed (phaseOf k))
 
 -- ---- an answer: the new picture, or the number and the picture that was given
 

@@ -1,6 +1,6 @@
 // A picture as a caller in C stores it, in eight bytes.
 ghost use mathlib.Core.Path.{_≡_};
-ghost use Rattle.ferghulta.specs.Stored.{stored, unopened, storedOpen, openPhase, pictureOf};
+ghost use Rattle.ferghulta.specs.Stored.{stored, storedAt, unopened, storedOpen, openPhase, phaseOf, pictureOf};
 use picture::Opened;
 use picture::Phase;
 use picture::Picture;
@@ -20,7 +20,13 @@ pub struct StoredPicture {
 pub fn stored(picture: Picture) -> StoredPicture
     ensures { λ r. ⌜ r ≡ stored picture ⌝ }
 {
-    match picture.phase() {
+    stored_at(picture.phase())
+}
+
+fn stored_at(phase: Phase) -> StoredPicture
+    ensures { λ r. ⌜ r ≡ storedAt phase ⌝ }
+{
+    match phase {
         Phase::Fresh => unopened(0),
         Phase::Open(o) => stored_open(o),
         Phase::Closed => unopened(2),
@@ -56,11 +62,17 @@ fn stored_open(o: Opened) -> StoredPicture
 pub fn picture_of(k: StoredPicture) -> Picture
     ensures { λ r. ⌜ r ≡ pictureOf k ⌝ }
 {
+    Picture::resume(phase_of(k))
+}
+
+fn phase_of(k: StoredPicture) -> Phase
+    ensures { λ r. ⌜ r ≡ phaseOf k ⌝ }
+{
     let phase = k.phase;
     match phase {
-        1 => Picture::resume(open_phase(k)),
-        2 => Picture::resume(Phase::Closed),
-        _ => Picture::new(),
+        1 => open_phase(k),
+        2 => Phase::Closed,
+        _ => Phase::Fresh,
     }
 }
 

@@ -1,4 +1,4 @@
--- What a call on a picture, or a reading, comes to can always be outcome.
+-- What a call on a picture, or a reading, comes to can always be answered.
 -- Assumes nothing.
 use Prim.Native.Nat.{ℕ, _*_}
 use mathlib.Core.Path.{_≡_, refl}
@@ -18,15 +18,15 @@ use Rattle.picture.specs.declared.Phase.the-variants.{Fresh, Open, Close
 use Rattle.picture.specs.declared.Picture.{Picture}
 use Rattle.picture.specs.declared.Change.{Change}
 use Rattle.picture.specs.declared.Change.the-variants as change
-use Rattle.picture.specs.Picture.{pictureOutcome, heightOk, begin, openFrom, rowOpen, rowFrom, closeFrom}
+use Rattle.picture.specs.Picture.{at, around, pictureOutcome, heightOk, begin, openFrom, rowOpen, rowFrom, closeFrom}
 
 -- an answer that says o
 pub record ChangeFor (o : Outcome Picture) : Type 0 where
   pub change : Change
   pub outcome : pictureOutcome change ≡ o
 
-pub change-for : {o : Outcome Picture} → Answerable o → ChangeFor o
-change-for (values p) = record { change = change.To p; outcome = refl }
+pub change-for : {o : Outcome Phase} → Answerable o → ChangeFor (around o)
+change-for (values f) = record { change = change.To (at f); outcome = refl }
 change-for (refusing r) = record { change = change.Refused r; outcome = refl }
 
 pub record ReadFor (o : Outcome Header) : Type 0 where

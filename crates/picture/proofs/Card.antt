@@ -22,14 +22,14 @@ use Rattle.picture.proofs.Picture.close.Reads as close-call
 use Rattle.picture.proofs.Calls.{Label, Card}
 
 -- what the caller hears of a call
-abbrev pub answerOf : Outcome Picture → Answer
-answerOf (outcome.accepted p) = accepted
+abbrev pub answerOf : {A : Type 0} → Outcome A → Answer
+answerOf (outcome.accepted a) = accepted
 answerOf (outcome.refused n) = refused n
 
--- the picture that the next call is given: what the call returned, or after a refusal what it was given itself
-abbrev pub leads : Picture → Outcome Picture → Picture
-leads p (outcome.accepted q) = q
-leads p (outcome.refused n) = p
+-- what the next call is given: what the call returned, or after a refusal what it was given itself
+abbrev pub leads : {A : Type 0} → A → Outcome A → A
+leads a (outcome.accepted b) = b
+leads a (outcome.refused n) = a
 
 -- what a reading tells
 abbrev pub labelOf : Outcome Header → Outcome Label

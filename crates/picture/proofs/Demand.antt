@@ -20,7 +20,7 @@ use Rattle.picture.specs.declared.Opened.{Opened}
 use Rattle.picture.specs.declared.Phase.{Phase}
 use Rattle.picture.specs.declared.Phase.the-variants.{Fresh, Open, Closed}
 use Rattle.picture.specs.declared.Picture.{Picture}
-use Rattle.picture.specs.Picture.{at, opening, rowOpen, rowFrom, rowing, bufferBy, bufferFrom, bufferAfter, closing}
+use Rattle.picture.specs.Picture.{around, openFrom, opening, rowOpen, rowFrom, rowing, bufferBy, bufferFrom, bufferAfter, closeFrom, closing}
 use Rattle.picture.specs.Book.{Call, opens, rows, closes, State, fresh, Answer, accepted, refused, Entry, accepts, enters, choose, answersFrom, entriesFrom}
 use Rattle.picture.proofs.Agreement.{split}
 use Rattle.picture.proofs.Calls.{Label, Card, Lent, Lights, Ran, ends, after-open, after-row, after-close, History}
@@ -28,11 +28,11 @@ use Rattle.picture.proofs.Card.{answerOf, labelOf, Opens, by-open, Rows
 use Rattle.picture.proofs.Claims.{ReadsBack, Blocks, none, one, ifAccepted, acceptedRows, Unchanged, stateOf, stateFrom, Demanded, Proper}
 use Rattle.picture.proofs.Faithful.{Follows, Faithful}
 use Rattle.picture.proofs.Rows.{reads-back}
-use Rattle.picture.proofs.Steps.{InStep, open-step, row-step, close-step}
+use Rattle.picture.proofs.Steps.{InStep, StepsTo, open-step, row-step, close-step}
 
 -- ---- what a row leaves in its buffer
 
-refused-leaves : (o : Opened) (lights out : List ℕ) (k : Outcome Picture) (n : ℕ) → answerOf k ≡ refused n → bufferBy k o lights out ≡ out
+refused-leaves : (o : Opened) (lights out : List ℕ) (k : Outcome Phase) (n : ℕ) → answerOf k ≡ refused n → bufferBy k o lights out ≡ out
 refused-leaves o lights out (outcome.accepted q) n e = let z : _≡_ {A = ℕ} 0 1 = cc in absurd (omega arith)
 refused-leaves o lights out (outcome.refused m) n e = refl
 
@@ -75,15 +75,15 @@ blocks-append : {card : Card} {ls ms : List Lent} {es fs : List Entry} → Block
 blocks-append none y = y
 blocks-append (one r s x) y = one r s (blocks-append x y)
 
--- what the calls cs come to that lead from the picture p to q, which calls can reach
-pub record After (card : Card) (p : Picture) (cs : List Call) (ans : List Answer) (ls : List Lent) (q : Picture) : Type 0 where
-  pub demanded : Demanded card (stateOf (p .phase)) cs ans ls (stateOf (q .phase))
-  pub proper : Proper (q .phase)
+-- what the calls cs come to that lead from the phase f to g, which calls can reach
+pub record After (card : Card) (f : Phase) (cs : List Call) (ans : List Answer) (ls : List Lent) (g : Phase) : Type 0 where
+  pub demanded : Demanded card (stateOf f) cs ans ls (stateOf g)
+  pub proper : Proper g
 
-module _ {card : Card} {p p′ q : Picture} {c : Call} {answer : Answer} {cs : List Call} {ans : List Answer} {ls : List Lent} (i : InStep p c answer p′) where
+module _ {card : Card} {f f′ g : Phase} {c : Call} {answer : Answer} {cs : List Call} {ans : List Answer} {ls : List Lent} (i : InStep f c answer f′) where
   -- with the buffers ms in all
-  then : {ms : List Lent} → Unchanged ms → Blocks card (acceptedRows ms) (entered (stateOf (p .phase)) c ++ entriesFrom (stateOf (p′ .phase)) cs)
-      → After card p′ cs ans ls q → After card p (c ∷ cs) (answer ∷ ans) ms q
+  then : {ms : List Lent} → Unchanged ms → Blocks card (acceptedRows ms) (entered (stateOf f) c ++ entriesFrom (stateOf f′) cs)
+      → After card f′ cs ans ls g → After card f (c ∷ cs) (answer ∷ ans) ms g
   unfolding answersFrom entriesFrom stateFrom
   then u b k = record {
     demanded = record {
@@ -96,13 +96,21 @@ module _ {card : Card} {p p′ q : Picture} {c : Call} {answer : Answer} {cs : L
   }
 
   -- an open or a close: no buffer, no entry
-  call-then : entered (stateOf (p .phase)) c ≡ [] → After card p′ cs ans ls q → After card p (c ∷ cs) (answer ∷ ans) ls q
+  call-then : entered (stateOf f) c ≡ [] → After card f′ cs ans ls g → After card f (c ∷ cs) (answer ∷ ans) ls g
   call-then e k = then (k .demanded .unchanged) (rw e (k .demanded .blocks)) k
 
-  row-then : {l : Lent} → ((n : ℕ) → l .answer ≡ refused n → l .after ≡ l .before) → Blocks card (ifAccepted (l .answer) l) (entered (stateOf (p .phase)) c)
-      → After card p′ cs ans ls q → After card p (c ∷ cs) (answer ∷ ans) (l ∷ ls) q
+  row-then : {l : Lent} → ((n : ℕ) → l .answer ≡ refused n → l .after ≡ l .before) → Blocks card (ifAccepted (l .answer) l) (entered (stateOf f) c)
+      → After card f′ cs ans ls g → After card f (c ∷ cs) (answer ∷ ans) (l ∷ ls) g
   unfolding acceptedRows Unchanged
   row-then u b k = then (u, k .demanded .unchanged) (blocks-append b (k .demanded .blocks)) k
+
+-- a call on a picture is one on its phase
+on-phase : {p p′ : Picture} {answer : Answer} (o : Outcome Phase) → Follows p (around o) answer p′ → Follows (p .phase) o answer (p′ .phase)
+on-phase (outcome.accepted f) s = rw (s .same, s .next) record { same = refl; next = refl }
+on-phase (outcome.refused n) s = rw (s .same, s .next) record { same = refl; next = refl }
+
+in-step : {f f′ : Phase} {o : Outcome Phase} {c : Call} {answer : Answer} → Follows f o answer f′ → StepsTo f c o → InStep f c answer f′
+in-step s t = rw (s .same, s .next) t
 
 no-entry : (t : Bool) → choose {A = List Entry} t [] [] ≡ []
 no-entry true = refl
@@ -115,29 +123,30 @@ module _ {card : Card} (does : Faithful card) where
   at-phase k = does .picture k .phase
 
   -- from any picture that calls can reach
-  pub run : {k l : card .Picture} {cs : List Call} {ans : List Answer} {ls : List Lent} → Proper (at-phase k) → Ran card k cs ans ls l → After card (does .picture k) cs ans ls (does .picture l)
+  pub run : {k l : card .Picture} {cs : List Call} {ans : List Answer} {ls : List Lent} → Proper (at-phase k) → Ran card k cs ans ls l → After card (at-phase k) cs ans ls (at-phase l)
   unfolding answersFrom entriesFrom stateFrom acceptedRows Unchanged
   run g ends = record { demanded = record { answer = refl; state = refl; unchanged = tt; blocks = none }; proper = g }
-  run {k} g (after-open {p′ = k′} {n = n} {w = w} {h = h} {answer = answer} call rest) =
-      let s = does .opens call in
-      let i : InStep (does .picture k) (opens n w h) answer (does .picture k′) = rw (s .same, s .next) (open-step (at-phase k) n w h) in
+  run {k} g (after-open {n = n} {w = w} {h = h} call rest) =
+      let s = on-phase (openFrom (at-phase k) n w h) (does .opens call) in
+      let i = in-step s (open-step (at-phase k) n w h) in
       call-then i (no-entry (accepts (stateOf (at-phase k)) (opens n w h))) (run (i .stays g) rest)
-  run {k} g (after-row {p′ = k′} {lights = lights} {out = out} {out′ = out′} {answer = answer} lit call rest) =
-      let s = does .rows call in
+  run {k} g (after-row {lights = lights} {out = out} {out′ = out′} {answer = answer} lit call rest) =
+      let left = does .rows call .1 in
+      let s = on-phase (rowFrom (at-phase k) lights (length out)) (does .rows call .0) in
       let c : Call = rows lights (length out) in
-      let i : InStep (does .picture k) c answer (does .picture k′) = rw (s .0 .same, s .0 .next) (row-step (at-phase k) lights (length out)) in
-      let u : (n : ℕ) → answer ≡ refused n → out′ ≡ out = rw (s .0 .same, s .1) (row-leaves (at-phase k) lights out) in
-      let b : Blocks card (ifAccepted answer (record { answer = answer; before = out; after = out′ })) (entered (stateOf (at-phase k)) c) = rw (s .0 .same, s .1) (row-keeps does (at-phase k) lights out g lit) in
+      let i = in-step s (row-step (at-phase k) lights (length out)) in
+      let u : (n : ℕ) → answer ≡ refused n → out′ ≡ out = rw (s .same, left) (row-leaves (at-phase k) lights out) in
+      let b : Blocks card (ifAccepted answer (record { answer = answer; before = out; after = out′ })) (entered (stateOf (at-phase k)) c) = rw (s .same, left) (row-keeps does (at-phase k) lights out g lit) in
       row-then i u b (run (i .stays g) rest)
-  run {k} g (after-close {p′ = k′} {answer = answer} call rest) =
-      let s = does .closes call in
-      let i : InStep (does .picture k) closes answer (does .picture k′) = rw (s .same, s .next) (close-step (at-phase k)) in
+  run {k} g (after-close call rest) =
+      let s = on-phase (closeFrom (at-phase k)) (does .closes call) in
+      let i = in-step s (close-step (at-phase k)) in
       call-then i (no-entry (accepts (stateOf (at-phase k)) closes)) (run (i .stays g) rest)
 
-  from-fresh : {cs : List Call} {ans : List Answer} {ls : List Lent} {l : card .Picture} → History card cs ans ls l → After card (at Fresh) cs ans ls (does .picture l)
+  from-fresh : {cs : List Call} {ans : List Answer} {ls : List Lent} {l : card .Picture} → History card cs ans ls l → After card Fresh cs ans ls (at-phase l)
   from-fresh s =
-      let new = does .news (s .made) in
-      rw new at (run (subst (λ (p : Picture). Proper (p .phase)) (sym new) tt) (s .ran))
+      let new : at-phase (s .start) ≡ Fresh = ap (λ (p : Picture). p .phase) (does .news (s .made)) in
+      rw new at (run (rw new tt) (s .ran))
 
   -- Demand 3, of a card that does what the definitions say
   pub demanded : {cs : List Call} {ans : List Answer} {ls : List Lent} {l : card .Picture} → History card cs ans ls l → Demanded card fresh cs ans ls (stateOf (at-phase l))

@@ -13,10 +13,10 @@ use Rattle.picture.specs.Book.{Answer}
 use Rattle.picture.proofs.Calls.{Label, Card}
 use Rattle.picture.proofs.Card.{answerOf, leads, labelOf}
 
--- a call on p that comes to o was answered so, and gave the next call the picture p′
-pub record Follows (p : Picture) (o : Outcome Picture) (answer : Answer) (p′ : Picture) : Type 0 where
+-- a call on a that comes to o was answered so, and gave a′ to the next call
+pub record Follows {A : Type 0} (a : A) (o : Outcome A) (answer : Answer) (a′ : A) : Type 0 where
   pub same : answer ≡ answerOf o
-  pub next : p′ ≡ leads p o
+  pub next : a′ ≡ leads a o
 
 pub record Faithful (card : Card) : Type 0 where
   -- the picture that a caller's stands for

@@ -3,6 +3,7 @@ pub mod Calls
 pub mod Card
 pub mod Claims
 pub mod Faithful
+mod NotOpen
 mod Neighbours
 mod Rows
 pub mod Steps

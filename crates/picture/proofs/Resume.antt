@@ -1,7 +1,7 @@
--- Whatever phase a caller kept, calls can make the picture that it is resumed as; and what calls can make is resumed as it was.
+-- Whatever phase a caller kept, calls can make the one that it is resumed as; and what calls can make is resumed as it was.
 -- Assumes nothing.
-use mathlib.Core.Path.{_≡_, refl, ap}
-use mathlib.Core.Bool.{Bool, true, false}
+use mathlib.Core.Path.{_≡_, refl}
+use mathlib.Core.Bool.{true}
 use lib.Dec.{leb}
 use borrow.Author.Tests.{le-leb, leb-true}
 use Rattle.exact.proofs.Boolean.{each-of-three}
@@ -10,7 +10,8 @@ use Rattle.block.specs.Read.{widthOk}
 use Rattle.picture.specs.declared.Opened.{Opened}
 use Rattle.picture.specs.declared.Phase.{Phase}
 use Rattle.picture.specs.declared.Phase.the-variants.{Fresh, Open, Closed}
-use Rattle.picture.specs.Picture.{at, heightOk, proper, resumedIf, resumed}
+use Rattle.picture.specs.Picture.{heightOk, proper, resumed}
+use Rattle.picture.proofs.Agreement.{split}
 use Rattle.picture.proofs.Claims.{Sized, Proper}
 
 proper-sized : (o : Opened) → proper o ≡ true → Sized o
@@ -25,16 +26,12 @@ sized-proper : (o : Opened) → Sized o → proper o ≡ true
 unfolding proper
 sized-proper o g = simp (le-leb _ _ (g .width-from), le-leb _ _ (g .width-to), le-leb _ _ (g .height-from), le-leb _ _ (g .height-to), le-leb _ _ (g .rows-to))
 
-pub resumed-proper : (f : Phase) → Proper (resumed f .phase)
+pub resumed-proper : (f : Phase) → Proper (resumed f)
 resumed-proper Fresh = tt
-resumed-proper (Open o) = go (proper o) refl
-  where
-    go : (b : Bool) → proper o ≡ b → Proper (resumedIf b o .phase)
-    go true e = proper-sized o e
-    go false e = tt
+resumed-proper (Open o) = split (proper o) (λ e. simp e (proper-sized o e)) (λ e. simp e tt)
 resumed-proper Closed = tt
 
-pub resumed-same : (f : Phase) → Proper f → resumed f ≡ at f
+pub resumed-same : (f : Phase) → Proper f → resumed f ≡ f
 resumed-same Fresh g = refl
-resumed-same (Open o) g = ap (λ (b : Bool). resumedIf b o) (sized-proper o g)
+resumed-same (Open o) g = simp (sized-proper o g)
 resumed-same Closed g = refl

@@ -17,22 +17,21 @@ use Rattle.systems.proofs.Scales.{unnamed}
 use Rattle.block.specs.Block.{size}
 use Rattle.picture.specs.declared.Phase.{Phase}
 use Rattle.picture.specs.declared.Phase.the-variants.{Fresh, Open, Closed}
-use Rattle.picture.specs.declared.Picture.{Picture}
-use Rattle.picture.specs.Picture.{at, beginIn, begin, openFrom, rowOpen, rowFrom, closeFrom}
+use Rattle.picture.specs.Picture.{beginIn, begin, openFrom, rowOpen, rowFrom, closeFrom}
 use Rattle.picture.specs.Book.{Call, opens, rows, closes, opened, Answer, accepted, refused, among, choose, answers, next}
 use Rattle.picture.proofs.Agreement.{split, at-least-is-not-below, below-is-not-at-least}
 use Rattle.picture.proofs.Card.{answerOf, leads}
 use Rattle.picture.proofs.Claims.{stateOf, Proper}
 
--- the answer to the call c is the book's, and it leads to where the book's next state is, a picture that calls can reach
-pub record InStep (p : Picture) (c : Call) (answer : Answer) (p′ : Picture) : Type 0 where
-  pub same : answer ≡ answers (stateOf (p .phase)) c
-  pub leads-on : stateOf (p′ .phase) ≡ next (stateOf (p .phase)) c
-  pub stays : Proper (p .phase) → Proper (p′ .phase)
+-- the answer to the call c is the book's, and it leads to where the book's next state is, a phase that calls can reach
+pub record InStep (f : Phase) (c : Call) (answer : Answer) (f′ : Phase) : Type 0 where
+  pub same : answer ≡ answers (stateOf f) c
+  pub leads-on : stateOf f′ ≡ next (stateOf f) c
+  pub stays : Proper f → Proper f′
 
 -- so it is where the call comes to o
-abbrev pub StepsTo : Phase → Call → Outcome Picture → Type 0
-StepsTo f c o = InStep (at f) c (answerOf o) (leads (at f) o)
+abbrev pub StepsTo : Phase → Call → Outcome Phase → Type 0
+StepsTo f c o = InStep f c (answerOf o) (leads f o)
 
 -- ---- open
 
@@ -56,15 +55,15 @@ named-in-range n =
     rw (unnamed n (eqb-false n 1 a) (eqb-false n 2 b) (eqb-false n 3 c) (eqb-false n 4 d), none-of-four n (eqb-false n 1 a) (eqb-false n 2 b) (eqb-false n 3 c) (eqb-false n 4 d)) nothing))))
 
 -- an open in the system that was found
-abbrev pub beginAs : Outcome System → ℕ → ℕ → Outcome Picture
+abbrev pub beginAs : Outcome System → ℕ → ℕ → Outcome Phase
 beginAs k w h = k and-then λ y. beginIn y w h
 
 -- an open where none is open, and the book's lines for it; t says whether n is 1 to 4
 record Begins (f : Phase) (n w h : ℕ) (k : Outcome System) (t : Bool) : Type 0 where
   same : answerOf (beginAs k w h) ≡ choose (not t) (refused 1) (choose (not (among 1 7680 w)) (refused 2) (choose (not (among 1 4320 h)) (refused 3) accepted))
-  leads-on : stateOf (leads (at f) (beginAs k w h) .phase)
+  leads-on : stateOf (leads f (beginAs k w h))
       ≡ choose (t && (among 1 7680 w && among 1 4320 h)) (opened (record { system = n; width = w; height = h; count = 0 })) (stateOf f)
-  stays : Proper f → Proper (leads (at f) (beginAs k w h) .phase)
+  stays : Proper f → Proper (leads f (beginAs k w h))
 
 begins : (f : Phase) (n w h : ℕ) {k : Outcome System} {t : Bool} → Names n k t → Begins f n w h k t
 begins f n w h nothing = record { same = refl; leads-on = refl; stays = λ g. g }

@@ -1,2 +1,3 @@
 pub mod Picture
+pub mod Inner
 pub mod Book

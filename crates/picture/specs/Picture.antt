@@ -1,7 +1,7 @@
 -- The picture's calls (document 01, 'Picture' and 'What the caller hears'): state is tested first, then input in the order of the numbers.
 -- Definitions only.
 use Prim.Native.Nat.{ℕ, _+_, _*_}
-use mathlib.Core.Bool.{Bool, true, false, _&&_}
+use mathlib.Core.Bool.{Bool, _&&_, cond}
 use mathlib.Core.List.{List, _++_}
 use lib.Dec.{leb, ltb, eqb}
 use lib.ListN.{length, drop}
@@ -19,9 +19,13 @@ use Rattle.picture.specs.declared.Picture.{Picture}
 use Rattle.picture.specs.declared.Change.{Change}
 use Rattle.picture.specs.declared.Change.the-variants as change
 
--- a picture at a phase
+-- the picture around a phase
 abbrev pub at : Phase → Picture
 at f = record { phase = f }
+
+-- a call's outcome on the picture, by its outcome on the phase
+abbrev pub around : Outcome Phase → Outcome Picture
+around o = o and-then λ f. accepted (at f)
 
 -- a height of 1 to 4320; a width is as in a block, 1 to 7680
 abbrev pub heightOk : ℕ → Bool
@@ -31,62 +35,55 @@ heightOk h = leb 1 h && leb h 4320
 unfoldable pub proper : Opened → Bool
 proper o = (widthOk (o .width) && heightOk (o .height)) && leb (o .rows) (o .height)
 
--- the picture at a phase that a caller kept: any other open one is taken as fresh
-abbrev pub resumedIf : Bool → Opened → Picture
-resumedIf true o = at (Open o)
-resumedIf false o = at Fresh
-
-abbrev pub resumedOpen : Opened → Picture
-resumedOpen o = resumedIf (proper o) o
-
-abbrev pub resumed : Phase → Picture
-resumed Fresh = at Fresh
-resumed (Open o) = resumedOpen o
-resumed Closed = at Closed
+-- a phase that a caller kept: any other open one is taken as fresh
+abbrev pub resumed : Phase → Phase
+resumed Fresh = Fresh
+resumed (Open o) = cond (proper o) (Open o) Fresh
+resumed Closed = Closed
 
 -- open with these, no row accepted
-abbrev pub begun : System → ℕ → ℕ → Picture
-begun y w h = at (Open (record { system = y; width = w; height = h; rows = 0 }))
+abbrev pub begun : System → ℕ → ℕ → Opened
+begun y w h = record { system = y; width = w; height = h; rows = 0 }
 
 -- open in a known system
-abbrev pub beginIn : System → ℕ → ℕ → Outcome Picture
-beginIn y w h = require (widthOk w) 2 (require (heightOk h) 3 (accepted (begun y w h)))
+abbrev pub beginIn : System → ℕ → ℕ → Outcome Phase
+beginIn y w h = require (widthOk w) 2 (require (heightOk h) 3 (accepted (Open (begun y w h))))
 
-unfoldable pub begin : ℕ → ℕ → ℕ → Outcome Picture
+unfoldable pub begin : ℕ → ℕ → ℕ → Outcome Phase
 begin n w h = named n and-then λ y. beginIn y w h
 
 -- open: allowed when fresh or closed
-abbrev pub openFrom : Phase → ℕ → ℕ → ℕ → Outcome Picture
+abbrev pub openFrom : Phase → ℕ → ℕ → ℕ → Outcome Phase
 openFrom Fresh n w h = begin n w h
 openFrom (Open o) n w h = refused 21
 openFrom Closed n w h = begin n w h
 
 abbrev pub opening : Picture → ℕ → ℕ → ℕ → Outcome Picture
-opening p n w h = openFrom (p .phase) n w h
+opening p n w h = around (openFrom (p .phase) n w h)
 
 -- one row more
-abbrev pub more : Opened → Picture
-more o = at (Open (record { system = o .system; width = o .width; height = o .height; rows = o .rows + 1 }))
+abbrev pub more : Opened → Opened
+more o = record { system = o .system; width = o .width; height = o .height; rows = o .rows + 1 }
 
 -- a row of lights to an open picture, with so many bytes of room
-unfoldable pub rowOpen : Opened → List ℕ → ℕ → Outcome Picture
+unfoldable pub rowOpen : Opened → List ℕ → ℕ → Outcome Phase
 rowOpen o lights room =
     require (ltb (o .rows) (o .height)) 23
     (require (eqb (length lights) (3 * o .width)) 4
     (require (leb (size (o .width)) room) 5
-    (accepted (more o))))
+    (accepted (Open (more o)))))
 
-abbrev pub rowFrom : Phase → List ℕ → ℕ → Outcome Picture
+abbrev pub rowFrom : Phase → List ℕ → ℕ → Outcome Phase
 rowFrom Fresh lights room = refused 22
 rowFrom (Open o) lights room = rowOpen o lights room
 rowFrom Closed lights room = refused 22
 
 abbrev pub rowing : Picture → List ℕ → ℕ → Outcome Picture
-rowing p lights room = rowFrom (p .phase) lights room
+rowing p lights room = around (rowFrom (p .phase) lights room)
 
 -- the buffer as a row leaves it: the block at the front where it is accepted, and later bytes as they were
-abbrev pub bufferBy : Outcome Picture → Opened → List ℕ → List ℕ → List ℕ
-bufferBy (accepted p) o lights out = rowBlock (o .system) (o .rows) (o .width) lights ++ drop (size (o .width)) out
+abbrev pub bufferBy : Outcome Phase → Opened → List ℕ → List ℕ → List ℕ
+bufferBy (accepted f) o lights out = rowBlock (o .system) (o .rows) (o .width) lights ++ drop (size (o .width)) out
 bufferBy (refused n) o lights out = out
 
 abbrev pub bufferFrom : Phase → List ℕ → List ℕ → List ℕ
@@ -98,13 +95,13 @@ abbrev pub bufferAfter : Picture → List ℕ → List ℕ → List ℕ
 bufferAfter p lights out = bufferFrom (p .phase) lights out
 
 -- close: needs every row
-abbrev pub closeFrom : Phase → Outcome Picture
+abbrev pub closeFrom : Phase → Outcome Phase
 closeFrom Fresh = refused 22
-closeFrom (Open o) = require (eqb (o .rows) (o .height)) 24 (accepted (at Closed))
+closeFrom (Open o) = require (eqb (o .rows) (o .height)) 24 (accepted Closed)
 closeFrom Closed = refused 22
 
 abbrev pub closing : Picture → Outcome Picture
-closing p = closeFrom (p .phase)
+closing p = around (closeFrom (p .phase))
 
 -- what the answer says
 abbrev pub pictureOutcome : Change → Outcome Picture

@@ -12,7 +12,8 @@ ghost use mathlib.Core.Bool.{_&&_};
 ghost use lib.Dec.{leb};
 ghost use lib.ListN.{length};
 ghost use Rattle.picture.specs.declared.Phase.the-variants.{Fresh};
-ghost use Rattle.picture.specs.Picture.{at, resumed, resumedOpen, proper, beginIn, begin, opening, rowOpen, rowing, bufferBy, bufferAfter, closing, pictureOutcome};
+ghost use Rattle.picture.specs.Picture.{at, around, resumed, proper, beginIn, begin, openFrom, opening, rowOpen, rowFrom, rowing, bufferBy, bufferFrom, bufferAfter, closeFrom, closing, pictureOutcome};
+ghost use Rattle.picture.specs.Inner.{phaseOutcome};
 
 // What an open picture was opened with, and how many of its rows were accepted.
 pub struct Opened {
@@ -38,6 +39,12 @@ pub enum Change {
     Refused(Refusal),
 }
 
+// What a call makes of the phase.
+enum Step {
+    To(Phase),
+    Refused(Refusal),
+}
+
 impl Picture {
     pub fn new() -> Picture
         ensures { λ r. ⌜ r ≡ at Fresh ⌝ }
@@ -49,14 +56,10 @@ impl Picture {
 
     // The picture at a phase that a caller kept; an open one that no call makes is taken as fresh.
     pub fn resume(phase: Phase) -> Picture
-        ensures { λ r. ⌜ r ≡ resumed phase ⌝ }
+        ensures { λ r. ⌜ r ≡ at (resumed phase) ⌝ }
     {
-        match phase {
-            Phase::Fresh => Picture::new(),
-            Phase::Open(o) => resume_open(o),
-            Phase::Closed => Picture {
-                phase: Phase::Closed,
-            },
+        Picture {
+            phase: resumed(phase),
         }
     }
 
@@ -71,11 +74,7 @@ impl Picture {
         ensures { λ r. ⌜ pictureOutcome r ≡ opening self system width height ⌝ }
     {
         let phase = self.phase;
-        match phase {
-            Phase::Fresh => begin(system, width, height),
-            Phase::Open(_) => Change::Refused(Refusal::AlreadyOpen),
-            Phase::Closed => begin(system, width, height),
-        }
+        around(open_from(phase, system, width, height))
     }
 
     // One block to the front of the buffer. Refused: 22, 23, then 4, 5.
@@ -83,11 +82,7 @@ impl Picture {
         ensures { λ r. ⌜ (pictureOutcome r ≡ rowing self (now (lights .entry)) (length (now (out .entry)))) × (now (out .exit) ≡ bufferAfter self (now (lights .entry)) (now (out .entry))) ⌝ }
     {
         let phase = self.phase;
-        match phase {
-            Phase::Fresh => Change::Refused(Refusal::NotOpen),
-            Phase::Open(o) => next_row(o, lights, out),
-            Phase::Closed => Change::Refused(Refusal::NotOpen),
-        }
+        around(row_from(phase, lights, out))
     }
 
     // Refused: 22, then 24.
@@ -95,31 +90,26 @@ impl Picture {
         ensures { λ r. ⌜ pictureOutcome r ≡ closing self ⌝ }
     {
         let phase = self.phase;
-        match phase {
-            Phase::Fresh => Change::Refused(Refusal::NotOpen),
-            Phase::Open(o) => {
-                if o.rows == o.height {
-                    Change::To(Picture {
-                        phase: Phase::Closed,
-                    })
-                } else {
-                    Change::Refused(Refusal::RowsMissing)
-                }
-            }
-            Phase::Closed => Change::Refused(Refusal::NotOpen),
-        }
+        around(close_from(phase))
     }
 }
 
-fn resume_open(o: Opened) -> Picture
-    ensures { λ r. ⌜ r ≡ resumedOpen o ⌝ }
+// The picture around the phase that a call makes.
+fn around(step: Step) -> Change
+    ensures { λ r. ⌜ pictureOutcome r ≡ around (phaseOutcome step) ⌝ }
 {
-    if is_proper(o) {
-        Picture {
-            phase: Phase::Open(o),
-        }
-    } else {
-        Picture::new()
+    match step {
+        Step::To(phase) => Change::To(Picture { phase }),
+        Step::Refused(r) => Change::Refused(r),
+    }
+}
+
+fn resumed(phase: Phase) -> Phase
+    ensures { λ r. ⌜ r ≡ resumed phase ⌝ }
+{
+    match phase {
+        Phase::Fresh | Phase::Closed => phase,
+        Phase::Open(o) => { if is_proper(o) { phase } else { Phase::Fresh } }
     }
 }
 
@@ -132,63 +122,92 @@ fn is_proper(o: Opened) -> bool
         & (o.rows <= o.height)
 }
 
-fn begin(system: u32, width: u32, height: u32) -> Change
-    ensures { λ r. ⌜ pictureOutcome r ≡ begin system width height ⌝ }
+fn open_from(phase: Phase, system: u32, width: u32, height: u32) -> Step
+    ensures { λ r. ⌜ phaseOutcome r ≡ openFrom phase system width height ⌝ }
+{
+    match phase {
+        Phase::Fresh | Phase::Closed => begin(system, width, height),
+        Phase::Open(_) => Step::Refused(Refusal::AlreadyOpen),
+    }
+}
+
+fn begin(system: u32, width: u32, height: u32) -> Step
+    ensures { λ r. ⌜ phaseOutcome r ≡ begin system width height ⌝ }
 {
     match System::from_number(system) {
         Named::Known(y) => begin_in(y, width, height),
-        Named::Unknown => Change::Refused(Refusal::System),
+        Named::Unknown => Step::Refused(Refusal::System),
     }
 }
 
-fn begin_in(y: System, width: u32, height: u32) -> Change
-    ensures { λ r. ⌜ pictureOutcome r ≡ beginIn y width height ⌝ }
+fn begin_in(y: System, width: u32, height: u32) -> Step
+    ensures { λ r. ⌜ phaseOutcome r ≡ beginIn y width height ⌝ }
 {
     if !is_size(width, MOST_SAMPLES) {
-        return Change::Refused(Refusal::Width);
+        return Step::Refused(Refusal::Width);
     }
     if !is_size(height, MOST_ROWS) {
-        return Change::Refused(Refusal::Height);
+        return Step::Refused(Refusal::Height);
     }
     let samples = width as u16;
     let most = height as u16;
-    Change::To(Picture {
-        phase: Phase::Open(Opened {
-            system: y,
-            width: samples,
-            height: most,
-            rows: 0,
-        }),
-    })
+    Step::To(Phase::Open(Opened {
+        system: y,
+        width: samples,
+        height: most,
+        rows: 0,
+    }))
 }
 
-fn next_row(o: Opened, lights: &[u16], out: &mut [u8]) -> Change
-    ensures { λ r. ⌜ (pictureOutcome r ≡ rowOpen o (now (lights .entry)) (length (now (out .entry)))) × (now (out .exit) ≡ bufferBy (rowOpen o (now (lights .entry)) (length (now (out .entry)))) o (now (lights .entry)) (now (out .entry))) ⌝ }
+fn row_from(phase: Phase, lights: &[u16], out: &mut [u8]) -> Step
+    ensures { λ r. ⌜ (phaseOutcome r ≡ rowFrom phase (now (lights .entry)) (length (now (out .entry)))) × (now (out .exit) ≡ bufferFrom phase (now (lights .entry)) (now (out .entry))) ⌝ }
+{
+    match phase {
+        Phase::Fresh | Phase::Closed => Step::Refused(Refusal::NotOpen),
+        Phase::Open(o) => next_row(o, lights, out),
+    }
+}
+
+fn next_row(o: Opened, lights: &[u16], out: &mut [u8]) -> Step
+    ensures { λ r. ⌜ (phaseOutcome r ≡ rowOpen o (now (lights .entry)) (length (now (out .entry)))) × (now (out .exit) ≡ bufferBy (rowOpen o (now (lights .entry)) (length (now (out .entry)))) o (now (lights .entry)) (now (out .entry))) ⌝ }
 {
     let rows = o.rows;
     let height = o.height;
     let needed = 3 * o.width as usize;
     let room = size(o.width as usize);
     if height <= rows {
-        return Change::Refused(Refusal::AllRows);
+        return Step::Refused(Refusal::AllRows);
     }
     if lights.len() != needed {
-        return Change::Refused(Refusal::Lights);
+        return Step::Refused(Refusal::Lights);
     }
     if out.len() < room {
-        return Change::Refused(Refusal::Output);
+        return Step::Refused(Refusal::Output);
     }
     let system = o.system;
     write_row(system, rows, o.width, lights, out);
     let accepted = rows + 1;
-    Change::To(Picture {
-        phase: Phase::Open(Opened {
-            system,
-            width: o.width,
-            height: o.height,
-            rows: accepted,
-        }),
-    })
+    Step::To(Phase::Open(Opened {
+        system,
+        width: o.width,
+        height: o.height,
+        rows: accepted,
+    }))
+}
+
+fn close_from(phase: Phase) -> Step
+    ensures { λ r. ⌜ phaseOutcome r ≡ closeFrom phase ⌝ }
+{
+    match phase {
+        Phase::Fresh | Phase::Closed => Step::Refused(Refusal::NotOpen),
+        Phase::Open(o) => {
+            if o.rows == o.height {
+                Step::To(Phase::Closed)
+            } else {
+                Step::Refused(Refusal::RowsMissing)
+            }
+        }
+    }
 }
 
 // From 1 to the most that there may be.

@@ -1,19 +1,12 @@
-use borrow.Author.Tests.{ne-eqb}
+use mathlib.Core.Path.{ap, _∙_}
 use borrow.Author.Needs.{needs}
+use Rattle.picture.specs.declared.Phase.{Phase}
+use Rattle.picture.specs.Picture.{at, resumed}
 use Rattle.ferghulta.proofs.stored_picture.picture_of.Statement.{statement}
 use Rattle.ferghulta.proofs.stored_picture.picture_of.Tie as tie
 
 returns : tie.Need-returns
-returns c = simp (c .before .before .match .keys1, c .before .open-phase .ensures, c .resume .ensures)
-
-returns-2 : tie.Need-returns-2
-returns-2 c = simp (c .before .match .keys2, c .resume2 .ensures)
-
-returns-3 : tie.Need-returns-3
-returns-3 c =
-    let r = c .before .match .rest in
-    simp (ne-eqb _ 1 (r .0 .1), ne-eqb _ 2 (r .1), c .new .ensures)
+returns c = c .resume .ensures ∙ ap (λ (f : Phase). at (resumed f)) (c .before .phase-of .ensures)
 
 pub picture-of-spec : {M : Type 1} → statement M
-picture-of-spec =
-    tie.close (tie.spec (λ c κs. search needs) (λ c κs. search needs) (λ c κs. search needs) (λ c κs. search needs) returns returns-2 returns-3)
+picture-of-spec = tie.close (tie.spec (λ c κs. search needs) (λ c κs. search needs) returns)

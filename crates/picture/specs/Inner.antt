@@ -1,0 +1,12 @@
+-- Inner definitions: a call on the phase of a picture. Nothing here has to be believed.
+-- Definitions only.
+use Rattle.exact.specs.Outcome.{Outcome, accepted, refused}
+use Rattle.systems.specs.Refusals.{refusal}
+use Rattle.picture.specs.declared.Phase.{Phase}
+use Rattle.picture.specs.declared.Step.{Step}
+use Rattle.picture.specs.declared.Step.the-variants.{To, Refused}
+
+-- what a step says
+abbrev pub phaseOutcome : Step → Outcome Phase
+phaseOutcome (To f) = accepted f
+phaseOutcome (Refused r) = refused (refusal r)

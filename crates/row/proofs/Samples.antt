@@ -13,7 +13,6 @@ use Rattle.curve.specs.Curve.{code}
 use Rattle.curve.proofs.Lights.{code-low, code-high}
 use Rattle.matrix.specs.declared.Words.{Words}
 use Rattle.matrix.specs.Inner.{NominalCodes}
-use Rattle.row.specs.Row.{sampleWords}
 use Rattle.row.specs.Inner.{put, headed, worded, stored}
 
 -- the codes of three lights are nominal
@@ -36,21 +35,21 @@ unfolding worded
 words-put w i x d d₁ d₂ d₃ e₁ e₂ e₃ = cc
 
 -- after i turns of a row's loop, by either matrix: the words of the first i samples of n are stored
-pub record StoredTo (y : System) (lights : List ℕ) (w : ℕ) (d₀ : List ℕ) (n : ℕ) (d : List ℕ) (i : ℕ) : Type 0 where
+pub record StoredTo (words : ℕ → Words) (w : ℕ) (d₀ : List ℕ) (n : ℕ) (d : List ℕ) (i : ℕ) : Type 0 where
   pub all : n ≡ w
   pub so-far : i ≤ n
   pub same-length : length d ≡ length d₀
-  pub stores : d ≡ stored (sampleWords y lights) w d₀ i
+  pub stores : d ≡ stored words w d₀ i
 
-pub none-stored : {y : System} {lights : List ℕ} {w : ℕ} {d : List ℕ} → StoredTo y lights w d w d 0
+pub none-stored : {words : ℕ → Words} {w : ℕ} {d : List ℕ} → StoredTo words w d w d 0
 unfolding stored
 none-stored = record { all = refl; so-far = zero-le; same-length = refl; stores = refl }
 
-pub one-more-stored : {y : System} {lights : List ℕ} {w n i : ℕ} {d₀ d e : List ℕ}
-    → StoredTo y lights w d₀ n d i → i < n → length e ≡ length d → e ≡ worded w i (sampleWords y lights i) d → StoredTo y lights w d₀ n e (i + 1)
+pub one-more-stored : {words : ℕ → Words} {w n i : ℕ} {d₀ d e : List ℕ}
+    → StoredTo words w d₀ n d i → i < n → length e ≡ length d → e ≡ worded w i (words i) d → StoredTo words w d₀ n e (i + 1)
 unfolding stored
 one-more-stored {i = i} before h l turn =
     record { all = before .all; so-far = omega arith; same-length = l ∙ before .same-length; stores = rw (add-one i) (cc) }
 
-pub all-stored : {y : System} {lights : List ℕ} {w n i : ℕ} {d₀ d : List ℕ} → StoredTo y lights w d₀ n d i → n ≤ i → d ≡ stored (sampleWords y lights) w d₀ w
+pub all-stored : {words : ℕ → Words} {w n i : ℕ} {d₀ d : List ℕ} → StoredTo words w d₀ n d i → n ≤ i → d ≡ stored words w d₀ w
 all-stored {w = w} {i = i} at h = let e : i ≡ w = omega arith in cc

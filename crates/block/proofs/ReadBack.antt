@@ -16,7 +16,7 @@ use Rattle.matrix.specs.declared.Clipped.{Clipped}
 use Rattle.matrix.specs.Triples.{codesAt, wordsWithin}
 use Rattle.matrix.proofs.Tested.{nominal-words}
 use Rattle.block.specs.Block.{block, sampleOf}
-use Rattle.block.specs.Read.{fieldAt, sectionAt, widthOk, sections, walk, sampleAt, nominalTo, decoded, rgb, codesTo, clippedTo, rowOf, headerOf, sliceAfter}
+use Rattle.block.specs.Read.{fieldAt, sectionAt, widthOk, sections, walk, sampleAt, nominalTo, judge, decoded, rgb, codesTo, clippedTo, rowOf, headerOf, sliceAfter}
 use Rattle.block.proofs.Bytes.{Fields, block-fields}
 use Rattle.block.proofs.Nominal.{nominal-if}
 use Rattle.block.proofs.Reading.{row-accepted, codes-in-front}
@@ -40,7 +40,7 @@ section-found bs i w good h e ok =
     rw (le-leb (i + 2) (length bs) l, e, ok, le-leb (i + 2 + 2 * w) (length bs) h)
 
 all-walked : (bs : List ℕ) (w : ℕ) (y : System) → length bs ≡ 9 + 6 * w → 1 ≤ w → w ≤ 7680 → named (getD bs 0 0) ≡ accepted y → fieldAt bs 1 ≤ 4319
-    → fieldAt bs 3 ≡ w → fieldAt bs (5 + 2 * w) ≡ w → fieldAt bs (7 + 4 * w) ≡ w → walk bs ≡ accepted (record { system = y; samples = w })
+    → fieldAt bs 3 ≡ w → fieldAt bs (5 + 2 * w) ≡ w → fieldAt bs (7 + 4 * w) ≡ w → walk bs ≡ accepted (record { system = y; row = fieldAt bs 1; samples = w })
 unfolding walk sections
 all-walked bs w y size some most known low luma cb cr =
     let three : 3 ≤ length bs = omega arith in
@@ -92,11 +92,14 @@ module _ (n row w : ℕ) (y : System) (ys cbs crs : List ℕ) (good : NominalRow
     row-back : fieldAt (block n row ys cbs crs) 1 ≡ row
     row-back = fields .row-number (omega arith)
 
-    pub block-walks : walk (block n row ys cbs crs) ≡ accepted (record { system = y; samples = w })
-    block-walks =
+    block-judged : judge (block n row ys cbs crs) ≡ accepted (record { system = y; row = row; samples = w })
+    unfolding judge
+    block-judged =
         let narrow : w < 65536 = omega (arith, good .most) in
+        let walked =
         all-walked (block n row ys cbs crs) w y block-length (good .some) (good .most) (ap named (fields .system) ∙ known) (omega (arith, row-back))
-        (fields .luma-count narrow) (fields .cb-count narrow) (fields .cr-count narrow)
+        (fields .luma-count narrow) (fields .cb-count narrow) (fields .cr-count narrow) in
+        rw (walked, block-nominal) (λ k. accepted (record { system = y; row = row-back k; samples = w }))
 
     -- what the caller hears
     pub block-reads-back : (room : ℕ) → 3 * w ≤ room
@@ -104,8 +107,7 @@ module _ (n row w : ℕ) (y : System) (ys cbs crs : List ℕ) (good : NominalRow
     block-reads-back room h =
         let bs = block n row ys cbs crs in
         let total = clipped-agree (rowOf y bs w) (decoded (matrix y) (scale y) (sampleOf ys cbs crs)) w decoded-back in
-        row-accepted bs room (record { system = y; samples = w }) block-walks block-nominal h
-        ∙ (λ k. accepted (record { system = y; row = row-back k; samples = w; clipped = total k }))
+        row-accepted bs room _ block-judged h ∙ (λ k. accepted (record { system = y; row = row; samples = w; clipped = total k }))
 
     -- the slice that is left
     pub block-decodes-back : (slice : List ℕ) → 3 * w ≤ length slice

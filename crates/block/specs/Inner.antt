@@ -16,21 +16,14 @@ use Rattle.matrix.specs.declared.Words.{Words}
 use Rattle.matrix.specs.declared.Unclipped.{Unclipped}
 use Rattle.matrix.specs.Triples.{natural, clipped, beyond}
 use Rattle.matrix.specs.Inner.{NominalWords, unclippedAt}
-use Rattle.block.specs.declared.Walked.{Walked}
 use Rattle.block.specs.declared.Counted.{Counted}
 use Rattle.block.specs.declared.Counted.the-variants as counted
-use Rattle.block.specs.declared.Found.{Found}
-use Rattle.block.specs.declared.Found.the-variants as found
 use Rattle.block.specs.Read.{fieldAt, sampleAt, rgb}
 
--- what the answers of the walk and of a section say
+-- what the answer of a section says
 abbrev pub countOutcome : Counted → Outcome ℕ
 countOutcome (counted.Count w) = accepted w
 countOutcome (counted.Refused r) = refused (refusal r)
-
-abbrev pub walkOutcome : Found → Outcome Walked
-walkOutcome (found.Block b) = accepted b
-walkOutcome (found.Refused r) = refused (refusal r)
 
 -- the first n words from a place are in a range
 unfoldable pub inRange : Range → List ℕ → ℕ → ℕ → Bool

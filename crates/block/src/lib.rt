@@ -23,17 +23,29 @@ use systems::System;
 ghost use mathlib.Core.Path.{_≡_};
 ghost use mathlib.Core.List.{_++_};
 ghost use Prim.Native.Nat.{_+_, _*_, _^_, _<_, _≤_};
-ghost use lib.Dec.{eqb};
+ghost use lib.Dec.{leb, eqb};
 ghost use lib.IntN.{natAbs};
 ghost use lib.ListN.{length, take, drop};
 ghost use lib.Seq.{sets};
 ghost use Rattle.systems.specs.Systems.{scale, within};
 ghost use Rattle.matrix.specs.Triples.{clipped, beyond};
 ghost use Rattle.block.specs.Block.{size};
-ghost use Rattle.block.specs.Read.{fieldAt, sectionAt, sections, walk, sampleAt, nominalTo, rgb, codesTo, clippedTo, rowOf, headerOf, sliceAfter, headerOutcome};
-ghost use Rattle.block.specs.Inner.{countOutcome, walkOutcome, inRange, Decodable, biased, unbiased, BiasFits, biasedTriple, biasedRow, triplesTo, Clippable, atLeast, atMost, clippedAll, beyondAll};
+ghost use Rattle.block.specs.Read.{fieldAt, sectionAt, sections, walk, sampleAt, nominalTo, judge, rgb, codesTo, rowOf, header, headerOf, sliceAfter, judgedOutcome, headerOutcome};
+ghost use Rattle.block.specs.Inner.{countOutcome, inRange, Decodable, biased, unbiased, BiasFits, biasedTriple, biasedRow, triplesTo, Clippable, atLeast, atMost, clippedAll, beyondAll};
 
-// What a block says of its row, and how many components were clipped in its codes.
+// What a block that can be read says of its row.
+pub struct Judged {
+    pub system: System,
+    pub row: u16,
+    pub samples: u16,
+}
+
+pub enum Judgement {
+    Block(Judged),
+    Refused(Refusal),
+}
+
+// The same of a block that was read, and how many components were clipped in its codes.
 pub struct Header {
     pub system: System,
     pub row: u16,
@@ -43,17 +55,6 @@ pub struct Header {
 
 pub enum BlockRead {
     Row(Header),
-    Refused(Refusal),
-}
-
-// What the walk finds.
-struct Walked {
-    system: System,
-    samples: u16,
-}
-
-enum Found {
-    Block(Walked),
     Refused(Refusal),
 }
 
@@ -74,48 +75,66 @@ pub fn read_block(bytes: &[u8], codes: &mut [u16]) -> BlockRead
     ensures { λ r. ⌜ headerOutcome r ≡ headerOf (now (bytes .entry)) (length (now (codes .entry))) ⌝ }
     ensures { λ r. ⌜ now (codes .exit) ≡ sliceAfter (now (bytes .entry)) (now (codes .entry)) ⌝ }
 {
-    match walk(bytes) {
-        Found::Block(b) => {
-            let system = b.system;
-            let samples = b.samples;
-            let nominal = all_nominal(system, bytes, samples);
-            let room = 3 * samples as usize <= codes.len();
-            if !nominal {
-                return BlockRead::Refused(Refusal::Code);
-            }
-            if !room {
+    match judge(bytes) {
+        Judgement::Block(b) => {
+            if !b.fits(codes.len()) {
                 return BlockRead::Refused(Refusal::Output);
             }
-            let clipped = decode(system, bytes, codes, samples as usize);
-            BlockRead::Row(Header {
-                system,
-                row: field_at(bytes, ROW_NUMBER),
-                samples,
-                clipped,
-            })
+            BlockRead::Row(decode(b, bytes, codes))
         }
-        Found::Refused(r) => BlockRead::Refused(r),
+        Judgement::Refused(r) => BlockRead::Refused(r),
+    }
+}
+
+// Judges a block by its bytes alone. Refused as in reading, but for 5.
+pub fn judge(bytes: &[u8]) -> Judgement
+    ensures { λ r. ⌜ judgedOutcome r ≡ judge (now (bytes .entry)) ⌝ }
+{
+    match walk(bytes) {
+        Judgement::Block(b) => {
+            let system = b.system;
+            if all_nominal(system, bytes, b.samples) {
+                Judgement::Block(b)
+            } else {
+                Judgement::Refused(Refusal::Code)
+            }
+        }
+        Judgement::Refused(r) => Judgement::Refused(r),
+    }
+}
+
+impl Judged {
+    // Whether so many places hold the codes.
+    pub fn fits(self, room: usize) -> bool
+        ensures { λ r. ⌜ r ≡ leb (3 * self .samples) room ⌝ }
+    {
+        3 * self.samples as usize <= room
     }
 }
 
 // From the front: system, row number and sections.
-fn walk(bytes: &[u8]) -> Found
-    ensures { λ r. ⌜ walkOutcome r ≡ walk (now (bytes .entry)) ⌝ }
+fn walk(bytes: &[u8]) -> Judgement
+    ensures { λ r. ⌜ judgedOutcome r ≡ walk (now (bytes .entry)) ⌝ }
 {
     if bytes.len() < LUMA_COUNT {
-        return Found::Refused(Refusal::BlockEnd);
+        return Judgement::Refused(Refusal::BlockEnd);
     }
     match System::from_number(bytes[SYSTEM] as u32) {
         Named::Known(system) => {
-            if LAST_ROW < field_at(bytes, ROW_NUMBER) {
-                return Found::Refused(Refusal::RowNumber);
+            let row = field_at(bytes, ROW_NUMBER);
+            if LAST_ROW < row {
+                return Judgement::Refused(Refusal::RowNumber);
             }
             match sections(bytes) {
-                Counted::Count(samples) => Found::Block(Walked { system, samples }),
-                Counted::Refused(r) => Found::Refused(r),
+                Counted::Count(samples) => Judgement::Block(Judged {
+                    system,
+                    row,
+                    samples,
+                }),
+                Counted::Refused(r) => Judgement::Refused(r),
             }
         }
-        Named::Unknown => Found::Refused(Refusal::System),
+        Named::Unknown => Judgement::Refused(Refusal::System),
     }
 }
 
@@ -208,14 +227,22 @@ fn outside(bytes: &[u8], at: usize, count: usize, range: Range) -> u16
     bad
 }
 
-// Decodes the samples, and gives how many components were clipped.
-fn decode(system: System, bytes: &[u8], codes: &mut [u16], samples: usize) -> u32
-    requires { ⌜ Decodable (scale system) (now bytes) samples (length (now codes)) ⌝ }
-    ensures { λ r. ⌜ r ≡ clippedTo (rowOf system (now (bytes .entry)) samples) samples ⌝ }
-    ensures { λ r. ⌜ now (codes .exit) ≡ codesTo (rowOf system (now (bytes .entry)) samples) samples ++ drop (3 * samples) (now (codes .entry)) ⌝ }
+// Decodes the samples of a judged block into the front of a slice.
+fn decode(b: Judged, bytes: &[u8], codes: &mut [u16]) -> Header
+    requires { ⌜ Decodable (scale (b .system)) (now bytes) (b .samples) (length (now codes)) ⌝ }
+    ensures { λ r. ⌜ r ≡ header b (now (bytes .entry)) ⌝ }
+    ensures { λ r. ⌜ now (codes .exit) ≡ codesTo (rowOf (b .system) (now (bytes .entry)) (b .samples)) (b .samples) ++ drop (3 * b .samples) (now (codes .entry)) ⌝ }
 {
+    let system = b.system;
+    let samples = b.samples as usize;
     put_unclipped(system.matrix(), system, bytes, codes, samples);
-    clip_all(system.nominal(), codes, 3 * samples) as u32
+    let clipped = clip_all(system.nominal(), codes, 3 * samples) as u32;
+    Header {
+        system,
+        row: b.row,
+        samples: b.samples,
+        clipped,
+    }
 }
 
 // The samples' R, G and B before they are clipped.

@@ -11,28 +11,28 @@ use lib.Seq.{drop-at}
 use borrow.Author.Tests.{le-leb, leb-true}
 use Rattle.exact.specs.Outcome.{Outcome, accepted, refused}
 use Rattle.exact.proofs.Outcome.{accepted-first, required}
-use Rattle.systems.specs.Systems.{scale}
-use Rattle.matrix.proofs.Tested.{nominal-words}
+use Rattle.matrix.specs.Triples.{nominalWords}
+use Rattle.matrix.proofs.Tested.{twelve-bits}
 use Rattle.block.specs.declared.Header.{Header}
 use Rattle.block.specs.declared.Judged.{Judged}
-use Rattle.block.specs.Read.{walk, sampleAt, nominalTo, judge, rowOf, codesTo, header, headerOf, sliceBy, sliceAfter}
+use Rattle.block.specs.Read.{walk, sampleAt, withinTo, judge, rowOf, codesTo, header, headerOf, sliceBy, sliceAfter}
 use Rattle.block.specs.Inner.{Decodable}
 use Rattle.block.proofs.Walking.{Sectioned, walk-accepted}
-use Rattle.block.proofs.Nominal.{nominal-at}
+use Rattle.block.proofs.Ranges.{within-at}
 use Rattle.block.proofs.Decoding.{length-codes, length-kept}
 
 -- a judged block has its samples, no byte more, and nominal words
 pub record Sound (bs : List ℕ) (b : Judged) : Type 0 where
   pub shape : Sectioned bs (b .samples)
   pub row : b .row ≤ 4319
-  pub nominal : nominalTo (b .system) (sampleAt bs (b .samples)) (b .samples) ≡ true
+  pub nominal : withinTo (nominalWords (b .system)) (sampleAt bs (b .samples)) (b .samples) ≡ true
 
 pub judged-sound : (bs : List ℕ) (b : Judged) → judge bs ≡ accepted b → Sound bs b
 unfolding judge
 judged-sound bs b e =
     let walked = accepted-first (walk bs) _ b e in
     let a = walked .0 in
-    let tested = required (nominalTo (a .system) (sampleAt bs (a .samples)) (a .samples)) 6 a b (walked .2) in
+    let tested = required (withinTo (nominalWords (a .system)) (sampleAt bs (a .samples)) (a .samples)) 6 a b (walked .2) in
     let shape = walk-accepted bs a (walked .1) in
     rw (← (tested .1)) record { shape = shape .0; row = shape .1; nominal = tested .0 }
 
@@ -47,13 +47,13 @@ module _ (bs : List ℕ) (room : ℕ) where
     unfolding headerOf
     row-accepted h = rw (e, le-leb (3 * b .samples) room h)
 
-    pub decodable : 3 * b .samples ≤ room → Decodable (scale (b .system)) bs (b .samples) room
+    pub decodable : 3 * b .samples ≤ room → Decodable bs (b .samples) room
     decodable h =
         let sound = judged-sound bs b e in
         record {
           long = omega (arith, sound .shape .size);
           narrow = sound .shape .most;
-          nominal = λ i l. nominal-words (b .system) (sampleAt bs (b .samples) i) (nominal-at (b .system) (sampleAt bs (b .samples)) (b .samples) i (sound .nominal) l);
+          words = λ i l. twelve-bits (b .system) _ (within-at (nominalWords (b .system)) (sampleAt bs (b .samples)) (b .samples) i (sound .nominal) l);
           fits = h;
         }
 

@@ -18,7 +18,7 @@ use Rattle.block.specs.declared.Counted.{Counted}
 use Rattle.block.specs.declared.Judged.{Judged}
 use Rattle.block.specs.Read.{fieldAt, sectionAt, widthOk, sections, walk}
 use Rattle.block.specs.Inner.{countOutcome}
-use Rattle.block.proofs.Nominal.{each}
+use Rattle.block.proofs.Ranges.{each}
 
 -- the range of one count
 abbrev pub only : ℕ → Range

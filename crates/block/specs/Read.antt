@@ -7,13 +7,14 @@ use lib.Dec.{leb, eqb}
 use lib.ListN.{length, getD, drop}
 use Rattle.exact.specs.Outcome.{Outcome, accepted, refused, _and-then_, require}
 use Rattle.systems.specs.declared.Codes.{Codes}
-use Rattle.systems.specs.declared.Matrix.{Matrix}
 use Rattle.systems.specs.declared.System.{System}
-use Rattle.systems.specs.Systems.{named, matrix, scale}
+use Rattle.systems.specs.Systems.{named, matrix, scale, nominal}
 use Rattle.systems.specs.Refusals.{refusal}
+use Rattle.matrix.specs.declared.Clips.{Clips}
 use Rattle.matrix.specs.declared.Clipped.{Clipped}
 use Rattle.matrix.specs.declared.Words.{Words}
-use Rattle.matrix.specs.Triples.{codesAt, wordsWithin}
+use Rattle.matrix.specs.declared.WordRanges.{WordRanges}
+use Rattle.matrix.specs.Triples.{noClips, _plus_, codesAt, nominalWords, wordsWithin}
 use Rattle.block.specs.declared.Header.{Header}
 use Rattle.block.specs.declared.Judged.{Judged}
 use Rattle.block.specs.declared.Judgement.{Judgement}
@@ -59,18 +60,18 @@ walk bs =
 abbrev pub sampleAt : List ℕ → ℕ → ℕ → Words
 sampleAt bs w i = record { y = fieldAt bs (5 + 2 * i); cb = fieldAt bs (7 + 2 * w + 2 * i); cr = fieldAt bs (9 + 4 * w + 2 * i) }
 
--- the words of a row's first n samples are nominal
-unfoldable pub nominalTo : System → (ℕ → Words) → ℕ → Bool
-nominalTo y sample zero = true
-nominalTo y sample (suc n) = nominalTo y sample n && wordsWithin y (sample n)
+-- the words of a row's first n samples are in their ranges
+unfoldable pub withinTo : WordRanges → (ℕ → Words) → ℕ → Bool
+withinTo r sample zero = true
+withinTo r sample (suc n) = withinTo r sample n && wordsWithin r (sample n)
 
 -- a block judged by itself: after the walk 6
 unfoldable pub judge : List ℕ → Outcome Judged
-judge bs = walk bs and-then λ b. require (nominalTo (b .system) (sampleAt bs (b .samples)) (b .samples)) 6 (accepted b)
+judge bs = walk bs and-then λ b. require (withinTo (nominalWords (b .system)) (sampleAt bs (b .samples)) (b .samples)) 6 (accepted b)
 
 -- the codes of a row's samples, from their words
-abbrev pub decoded : Matrix → ℕ → (ℕ → Words) → ℕ → Clipped
-decoded x s sample i = codesAt x s (sample i)
+abbrev pub decoded : System → (ℕ → Words) → ℕ → Clipped
+decoded y sample i = codesAt (matrix y) (scale y) (nominal y) (sample i)
 
 -- R, G and B of a sample
 abbrev pub rgb : Codes → List ℕ
@@ -81,18 +82,18 @@ unfoldable pub codesTo : (ℕ → Clipped) → ℕ → List ℕ
 codesTo sample zero = []
 codesTo sample (suc n) = codesTo sample n ++ rgb (sample n .codes)
 
--- how many of them were clipped
-unfoldable pub clippedTo : (ℕ → Clipped) → ℕ → ℕ
-clippedTo sample zero = 0
-clippedTo sample (suc n) = clippedTo sample n + sample n .count
+-- their clips
+unfoldable pub clipsTo : (ℕ → Clipped) → ℕ → Clips
+clipsTo sample zero = noClips
+clipsTo sample (suc n) = clipsTo sample n plus sample n .clips
 
 -- the codes of a block of w samples
 abbrev pub rowOf : System → List ℕ → ℕ → ℕ → Clipped
-rowOf y bs w = decoded (matrix y) (scale y) (sampleAt bs w)
+rowOf y bs w = decoded y (sampleAt bs w)
 
 -- what is read of a judged block
 abbrev pub header : Judged → List ℕ → Header
-header b bs = record { system = b .system; row = b .row; samples = b .samples; clipped = clippedTo (rowOf (b .system) bs (b .samples)) (b .samples) }
+header b bs = record { system = b .system; row = b .row; samples = b .samples; clips = clipsTo (rowOf (b .system) bs (b .samples)) (b .samples) }
 
 -- reading into a slice of so many words: 5 after what the block itself is refused for
 unfoldable pub headerOf : List ℕ → ℕ → Outcome Header

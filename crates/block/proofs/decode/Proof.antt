@@ -6,7 +6,7 @@ use lib.ListN.{length, take, drop}
 use denote.Ref.{now}
 use Rattle.systems.specs.declared.Matrix.{Matrix}
 use Rattle.systems.specs.declared.Range.{Range}
-use Rattle.systems.specs.Systems.{matrix, scale}
+use Rattle.systems.specs.Systems.{matrix, scale, nominal}
 use Rattle.systems.proofs.Scales.{scale-range}
 use Rattle.block.specs.declared.Judged.{Judged}
 use Rattle.block.specs.Read.{sampleAt}
@@ -52,11 +52,11 @@ returns c =
     let s = start r in
     let b = judged r in
     let n = b .samples in
-    let done = clipped-row (matrix (b .system)) (scale (b .system)) (sampleAt (now (s .args .bytes)) n) (scale-range (b .system) .1) n (now (s .args .codes)) (unclipped r) (s .pre .nominal) (unclipped-is r) in
+    let done = clipped-row (matrix (b .system)) (scale (b .system)) (nominal (b .system)) (sampleAt (now (s .args .bytes)) n) (scale-range (b .system) .1) n (now (s .args .codes)) (unclipped r) (s .pre .words) (unclipped-is r) in
     let range = c .before .before .before .before .nominal .ensures in
     let told = c .before .before .clip-all .ensures in
     let count = told .0 ∙ ap (λ (t : Range). beyondAll t (take (3 * n) (unclipped r))) range ∙ done .0 in (
-      λ j. record { system = b .system; row = b .row; samples = n; clipped = count j },
+      λ j. record { system = b .system; row = b .row; samples = n; clips = count j },
       told .1 ∙ ap (λ (t : Range). clippedAll t (take (3 * n) (unclipped r)) ++ drop (3 * n) (unclipped r)) range ∙ done .1,
     )
 
@@ -64,4 +64,4 @@ pub decode-spec : {M : Type 1} → statement M
 decode-spec =
     tie.close
     (tie.spec (λ c. search needs) (λ c κs. search needs) put-unclipped-requires (λ c κs. search needs) (λ c. search needs) clip-all-requires
-    (λ c. search needs) (λ c. search needs) returns)
+    (λ c. search needs) returns)

@@ -12,16 +12,16 @@ use Rattle.block.proofs.judge.Tie as tie
 walked : (c : tie.After-b) → walk (now (c .before .before .before .before .args .bytes)) ≡ accepted (c .b .given .0 .0)
 walked c = sym (c .before .before .walk .ensures) ∙ ap judgedOutcome (c .b .given .1)
 
-all-nominal-requires : tie.Need-all-nominal-requires
-all-nominal-requires c κs = let shape = walk-accepted _ _ (walked (c .before)) .0 in (omega (arith, shape .size), shape .most)
+all-in-requires : tie.Need-all-in-requires
+all-in-requires c κs = let shape = walk-accepted _ _ (walked (c .before .before)) .0 in (omega (arith, shape .size), shape .most)
 
 returns : tie.Need-returns
 unfolding judge
-returns c = rw (walked (c .before .before .before), sym (c .before .all-nominal .ensures) ∙ c .if1 .taken)
+returns c = rw (walked (c .before .before .before .before), rw (c .before .before .nominal .ensures) at (sym (c .before .all-in .ensures) ∙ c .if1 .taken))
 
 returns-2 : tie.Need-returns-2
 unfolding judge
-returns-2 c = rw (walked (c .before .before .before), sym (c .before .all-nominal .ensures) ∙ c .if1 .left)
+returns-2 c = rw (walked (c .before .before .before .before), rw (c .before .before .nominal .ensures) at (sym (c .before .all-in .ensures) ∙ c .if1 .left))
 
 returns-3 : tie.Need-returns-3
 unfolding judge
@@ -29,4 +29,5 @@ returns-3 c = rw (sym (c .before .before .before .walk .ensures) ∙ ap judgedOu
 
 pub judge-spec : {M : Type 1} → statement M
 judge-spec =
-    tie.close (tie.spec (λ c κs. search needs) (λ c. search needs) all-nominal-requires (λ c. search needs) returns returns-2 returns-3)
+    tie.close
+    (tie.spec (λ c κs. search needs) (λ c. search needs) (λ c κs. search needs) all-in-requires (λ c. search needs) returns returns-2 returns-3)

@@ -7,7 +7,8 @@ use lib.Dec.{leb, eqb}
 use lib.ListN.{length, getD}
 use Rattle.systems.specs.declared.refusal.Refusal.the-variants as refusal
 use Rattle.systems.proofs.Answerable.{Answerable, values, tested, followed, named-answerable}
-use Rattle.block.specs.Read.{fieldAt, sectionAt, widthOk, sections, walk, sampleAt, nominalTo, headerOf}
+use Rattle.matrix.specs.Triples.{nominalWords}
+use Rattle.block.specs.Read.{fieldAt, sectionAt, widthOk, sections, walk, sampleAt, withinTo, judge, headerOf}
 
 section-answerable : (bs : List ℕ) (i : ℕ) (good : ℕ → Bool) → Answerable (sectionAt bs i good)
 section-answerable bs i good =
@@ -31,9 +32,10 @@ walk-answerable bs =
     tested (leb (fieldAt bs 1) 4319) refusal.RowNumber
     (followed (sections-answerable bs) (λ w. values _))))
 
+judge-answerable : (bs : List ℕ) → Answerable (judge bs)
+unfolding judge
+judge-answerable bs = followed (walk-answerable bs) (λ b. tested (withinTo (nominalWords (b .system)) (sampleAt bs (b .samples)) (b .samples)) refusal.Code (values b))
+
 pub reading-answerable : (bs : List ℕ) (room : ℕ) → Answerable (headerOf bs room)
 unfolding headerOf
-reading-answerable bs room =
-    followed (walk-answerable bs) (λ b.
-    tested (nominalTo (b .system) (sampleAt bs (b .samples)) (b .samples)) refusal.Code
-    (tested (leb (3 * b .samples) room) refusal.Output (values _)))
+reading-answerable bs room = followed (judge-answerable bs) (λ b. tested (leb (3 * b .samples) room) refusal.Output (values _))

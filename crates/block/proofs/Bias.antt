@@ -3,7 +3,7 @@
 use mathlib.Core.Path.{_≡_, refl, sym, ap, subst, _∙_}
 use mathlib.Core.Bool.{Bool, true, false}
 use mathlib.Core.Logic.{_⊎_, inl, inr}
-use Prim.Native.Nat.{ℕ, suc, _+_, _*_, _-_, _^_, _≤_, _<_}
+use Prim.Native.Nat.{ℕ, suc, _+_, _-_, _^_, _≤_, _<_}
 use native.Mathlib.Omega.{arith}
 use lib.Dec.{ltb}
 use lib.IntN.{ℤ, pos, negsuc, natAbs, subℕ, _+ℤ_}
@@ -15,9 +15,10 @@ use Rattle.exact.proofs.Difference.{sub-pos, sub-neg, pos-sub, sub-eq}
 use Rattle.systems.specs.declared.Codes.{Codes}
 use Rattle.systems.specs.declared.Matrix.{Matrix}
 use Rattle.systems.specs.declared.Range.{Range}
+use Rattle.matrix.specs.declared.Clips.{Clips}
 use Rattle.matrix.specs.declared.Clipped.{Clipped}
 use Rattle.matrix.specs.declared.Words.{Words}
-use Rattle.matrix.specs.Triples.{natural, clipped, beyond, codesAt}
+use Rattle.matrix.specs.Triples.{natural, _plus_, clipped, beyond, codesAt}
 use Rattle.matrix.specs.Inner.{TwelveBitWords, unclippedAt}
 use Rattle.matrix.proofs.Clipping.{clipped-by, counted}
 use Rattle.matrix.proofs.DecodingRows.{unclipped-small}
@@ -79,22 +80,20 @@ module _ (n : Range) (v : ℕ) where
 
   pub beyond-biased : Clippable n →
       let k = boolByte (ltb v (n .low + 16384)) + boolByte (ltb (n .high + 16384) v) in
-      (k ≡ beyond n (unbiased v)) × (k ≤ 1)
-  beyond-biased c = rw (← (low-test v (n .low)), ← (high-test v (n .high))) (counted n (unbiased v) (c .in-order))
+      (k ≡ beyond n (unbiased v) .total) × (k ≤ 1)
+  beyond-biased c = let k = counted n (unbiased v) (c .in-order) in rw (← (low-test v (n .low)), ← (high-test v (n .high))) (ap (λ (t : Clips). t .total) (k .0), k .1)
 
 -- ---- of a sample's words
--- a biased triple clipped to 16s to 235s, and the count of those that were
-abbrev pub fromBiased : ℕ → Codes → Clipped
-fromBiased s v =
-    let n : Range = record { low = 16 * s; high = 235 * s } in
-    record {
-      codes = record { r = clipped n (unbiased (v .r)); g = clipped n (unbiased (v .g)); b = clipped n (unbiased (v .b)) };
-      count = beyond n (unbiased (v .r)) + beyond n (unbiased (v .g)) + beyond n (unbiased (v .b));
-    }
+-- a biased triple clipped to a range, and its clips
+abbrev pub fromBiased : Range → Codes → Clipped
+fromBiased n v = record {
+  codes = record { r = clipped n (unbiased (v .r)); g = clipped n (unbiased (v .g)); b = clipped n (unbiased (v .b)) };
+  clips = beyond n (unbiased (v .r)) plus beyond n (unbiased (v .g)) plus beyond n (unbiased (v .b));
+}
 
-pub codes-from-biased : (x : Matrix) (s : ℕ) (w : Words) → s ≤ 16 → TwelveBitWords w → fromBiased s (biasedTriple (unclippedAt x s w)) ≡ codesAt x s w
+pub codes-from-biased : (x : Matrix) (s : ℕ) (n : Range) (w : Words) → s ≤ 16 → TwelveBitWords w → fromBiased n (biasedTriple (unclippedAt x s w)) ≡ codesAt x s n w
 unfolding unclippedAt codesAt
-codes-from-biased x s w S n =
+codes-from-biased x s n w S t =
     let v = unclippedAt x s w in
-    let p = unclipped-small s w S n x in
+    let p = unclipped-small s w S t x in
     rw (unbiased-biased (v .r) (p .0), unbiased-biased (v .g) (p .1), unbiased-biased (v .b) (p .2)) refl

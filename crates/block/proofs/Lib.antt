@@ -1,5 +1,5 @@
 pub mod Walking
-pub mod Nominal
+pub mod Ranges
 pub mod Decoding
 pub mod Bias
 pub mod Clipping

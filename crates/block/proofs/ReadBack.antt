@@ -10,28 +10,27 @@ use lib.ListN.{length, getD, drop}
 use borrow.Author.Tests.{le-leb, eq-eqb}
 use Rattle.exact.specs.Outcome.{accepted}
 use Rattle.systems.specs.declared.System.{System}
-use Rattle.systems.specs.Systems.{named, matrix, scale}
-use Rattle.systems.proofs.Scales.{scale-range}
+use Rattle.systems.specs.Systems.{named, matrix, scale, nominal}
 use Rattle.matrix.specs.declared.Clipped.{Clipped}
-use Rattle.matrix.specs.Triples.{codesAt, wordsWithin}
-use Rattle.matrix.proofs.Tested.{nominal-words}
+use Rattle.matrix.specs.Triples.{_plus_, codesAt, nominalWords, wordsWithin}
+use Rattle.matrix.proofs.Tested.{twelve-bits}
 use Rattle.block.specs.Block.{block, sampleOf}
-use Rattle.block.specs.Read.{fieldAt, sectionAt, widthOk, sections, walk, sampleAt, nominalTo, decoded, rgb, codesTo, clippedTo, rowOf, headerOf, sliceAfter}
+use Rattle.block.specs.Read.{fieldAt, sectionAt, widthOk, sections, walk, sampleAt, withinTo, judge, decoded, rgb, codesTo, clipsTo, rowOf, headerOf, sliceAfter}
 use Rattle.block.proofs.Bytes.{Fields, block-fields}
-use Rattle.block.proofs.Nominal.{nominal-if}
+use Rattle.block.proofs.Ranges.{within-if}
 use Rattle.block.proofs.Reading.{row-accepted, codes-in-front}
 
--- rows that agree on their first n samples have the same codes, and as many of them clipped
+-- rows that agree on their first n samples have the same codes and clips
 module _ (f g : ℕ → Clipped) where
   pub codes-agree : (n : ℕ) → ((i : ℕ) → i < n → f i ≡ g i) → codesTo f n ≡ codesTo g n
   unfolding codesTo
   codes-agree zero h = refl
   codes-agree (suc n) h = λ k. codes-agree n (λ i l. h i (omega arith)) k ++ rgb (h n (omega arith) k .codes)
 
-  pub clipped-agree : (n : ℕ) → ((i : ℕ) → i < n → f i ≡ g i) → clippedTo f n ≡ clippedTo g n
-  unfolding clippedTo
-  clipped-agree zero h = refl
-  clipped-agree (suc n) h = λ k. clipped-agree n (λ i l. h i (omega arith)) k + h n (omega arith) k .count
+  pub clips-agree : (n : ℕ) → ((i : ℕ) → i < n → f i ≡ g i) → clipsTo f n ≡ clipsTo g n
+  unfolding clipsTo
+  clips-agree zero h = refl
+  clips-agree (suc n) h = λ k. clips-agree n (λ i l. h i (omega arith)) k plus h n (omega arith) k .clips
 
 -- bytes with the right system, row number, counts and length are walked to their end
 section-found : (bs : List ℕ) (i w : ℕ) (good : ℕ → Bool) → i + 2 + 2 * w ≤ length bs → fieldAt bs i ≡ w → good w ≡ true → sectionAt bs i good ≡ accepted w
@@ -40,7 +39,7 @@ section-found bs i w good h e ok =
     rw (le-leb (i + 2) (length bs) l, e, ok, le-leb (i + 2 + 2 * w) (length bs) h)
 
 all-walked : (bs : List ℕ) (w : ℕ) (y : System) → length bs ≡ 9 + 6 * w → 1 ≤ w → w ≤ 7680 → named (getD bs 0 0) ≡ accepted y → fieldAt bs 1 ≤ 4319
-    → fieldAt bs 3 ≡ w → fieldAt bs (5 + 2 * w) ≡ w → fieldAt bs (7 + 4 * w) ≡ w → walk bs ≡ accepted (record { system = y; samples = w })
+    → fieldAt bs 3 ≡ w → fieldAt bs (5 + 2 * w) ≡ w → fieldAt bs (7 + 4 * w) ≡ w → walk bs ≡ accepted (record { system = y; row = fieldAt bs 1; samples = w })
 unfolding walk sections
 all-walked bs w y size some most known low luma cb cr =
     let three : 3 ≤ length bs = omega arith in
@@ -63,7 +62,7 @@ pub record NominalRow (y : System) (w : ℕ) (ys cbs crs : List ℕ) : Type 0 wh
   pub luma-count : length ys ≡ w
   pub cb-count : length cbs ≡ w
   pub cr-count : length crs ≡ w
-  pub nominal : (i : ℕ) → i < w → wordsWithin y (sampleOf ys cbs crs i) ≡ true
+  pub nominal : (i : ℕ) → i < w → wordsWithin (nominalWords y) (sampleOf ys cbs crs i) ≡ true
 
 module _ (n row w : ℕ) (y : System) (ys cbs crs : List ℕ) (good : NominalRow y w ys cbs crs) where
   fields : Fields (block n row ys cbs crs) n row w ys cbs crs
@@ -75,42 +74,43 @@ module _ (n row w : ℕ) (y : System) (ys cbs crs : List ℕ) (good : NominalRow
   -- the words of sample i read back
   pub block-samples : (i : ℕ) → i < w → sampleAt (block n row ys cbs crs) w i ≡ sampleOf ys cbs crs i
   block-samples i h =
-      let m = nominal-words y (sampleOf ys cbs crs i) (good .nominal i h) in
-      let s = scale-range y .1 in
+      let m = twelve-bits y (sampleOf ys cbs crs i) (good .nominal i h) in
       let luma = fields .luma i h (omega (arith, m .y-high)) in
       let cb = fields .cb i h (omega (arith, m .cb-high)) in
       let cr = fields .cr i h (omega (arith, m .cr-high)) in
       λ k. record { y = luma k; cb = cb k; cr = cr k }
 
-  decoded-back : (i : ℕ) → i < w → rowOf y (block n row ys cbs crs) w i ≡ decoded (matrix y) (scale y) (sampleOf ys cbs crs) i
-  decoded-back i h = ap (codesAt (matrix y) (scale y)) (block-samples i h)
+  decoded-back : (i : ℕ) → i < w → rowOf y (block n row ys cbs crs) w i ≡ decoded y (sampleOf ys cbs crs) i
+  decoded-back i h = ap (codesAt (matrix y) (scale y) (nominal y)) (block-samples i h)
 
-  block-nominal : nominalTo y (sampleAt (block n row ys cbs crs) w) w ≡ true
-  block-nominal = nominal-if y (sampleAt (block n row ys cbs crs) w) w (λ i h. ap (wordsWithin y) (block-samples i h) ∙ good .nominal i h)
+  block-nominal : withinTo (nominalWords y) (sampleAt (block n row ys cbs crs) w) w ≡ true
+  block-nominal = within-if (nominalWords y) (sampleAt (block n row ys cbs crs) w) w (λ i h. ap (wordsWithin (nominalWords y)) (block-samples i h) ∙ good .nominal i h)
 
   module _ (known : named n ≡ accepted y) (low : row ≤ 4319) where
     row-back : fieldAt (block n row ys cbs crs) 1 ≡ row
     row-back = fields .row-number (omega arith)
 
-    pub block-walks : walk (block n row ys cbs crs) ≡ accepted (record { system = y; samples = w })
-    block-walks =
+    block-judged : judge (block n row ys cbs crs) ≡ accepted (record { system = y; row = row; samples = w })
+    unfolding judge
+    block-judged =
         let narrow : w < 65536 = omega (arith, good .most) in
+        let walked =
         all-walked (block n row ys cbs crs) w y block-length (good .some) (good .most) (ap named (fields .system) ∙ known) (omega (arith, row-back))
-        (fields .luma-count narrow) (fields .cb-count narrow) (fields .cr-count narrow)
+        (fields .luma-count narrow) (fields .cb-count narrow) (fields .cr-count narrow) in
+        rw (walked, block-nominal) (λ k. accepted (record { system = y; row = row-back k; samples = w }))
 
     -- what the caller hears
     pub block-reads-back : (room : ℕ) → 3 * w ≤ room
-        → headerOf (block n row ys cbs crs) room ≡ accepted (record { system = y; row = row; samples = w; clipped = clippedTo (decoded (matrix y) (scale y) (sampleOf ys cbs crs)) w })
+        → headerOf (block n row ys cbs crs) room ≡ accepted (record { system = y; row = row; samples = w; clips = clipsTo (decoded y (sampleOf ys cbs crs)) w })
     block-reads-back room h =
         let bs = block n row ys cbs crs in
-        let total = clipped-agree (rowOf y bs w) (decoded (matrix y) (scale y) (sampleOf ys cbs crs)) w decoded-back in
-        row-accepted bs room (record { system = y; samples = w }) block-walks block-nominal h
-        ∙ (λ k. accepted (record { system = y; row = row-back k; samples = w; clipped = total k }))
+        let total = clips-agree (rowOf y bs w) (decoded y (sampleOf ys cbs crs)) w decoded-back in
+        row-accepted bs room _ block-judged h ∙ (λ k. accepted (record { system = y; row = row; samples = w; clips = total k }))
 
     -- the slice that is left
     pub block-decodes-back : (slice : List ℕ) → 3 * w ≤ length slice
-        → sliceAfter (block n row ys cbs crs) slice ≡ codesTo (decoded (matrix y) (scale y) (sampleOf ys cbs crs)) w ++ drop (3 * w) slice
+        → sliceAfter (block n row ys cbs crs) slice ≡ codesTo (decoded y (sampleOf ys cbs crs)) w ++ drop (3 * w) slice
     block-decodes-back slice h =
         let bs = block n row ys cbs crs in
-        let same = codes-agree (rowOf y bs w) (decoded (matrix y) (scale y) (sampleOf ys cbs crs)) w decoded-back in
+        let same = codes-agree (rowOf y bs w) (decoded y (sampleOf ys cbs crs)) w decoded-back in
         sym (codes-in-front bs slice _ (block-reads-back (length slice) h)) ∙ ap (λ (l : List ℕ). l ++ drop (3 * w) slice) same

@@ -1,58 +1,61 @@
--- What the caller hears and the slice that is left, by the tests of the reading.
+-- What the caller hears and the slice that is left, by what was judged of the block.
 -- Assumes nothing.
 use mathlib.Core.Path.{_≡_, refl, sym, ap, _∙_}
-use mathlib.Core.Bool.{true, false}
+use mathlib.Core.Bool.{true}
 use mathlib.Core.List.{List, _++_}
-use Prim.Native.Nat.{ℕ, _+_, _*_, _≤_, _<_}
+use Prim.Native.Nat.{ℕ, _+_, _*_, _≤_}
 use native.Mathlib.Omega.{arith}
 use lib.Dec.{leb}
 use lib.ListN.{length, drop}
 use lib.Seq.{drop-at}
-use borrow.Author.Tests.{le-leb, lt-leb, leb-true}
+use borrow.Author.Tests.{le-leb, leb-true}
 use Rattle.exact.specs.Outcome.{Outcome, accepted, refused}
 use Rattle.exact.proofs.Outcome.{accepted-first, required}
-use Rattle.systems.specs.Systems.{scale}
-use Rattle.matrix.proofs.Tested.{nominal-words}
+use Rattle.matrix.specs.Triples.{nominalWords}
+use Rattle.matrix.proofs.Tested.{twelve-bits}
 use Rattle.block.specs.declared.Header.{Header}
-use Rattle.block.specs.declared.Walked.{Walked}
-use Rattle.block.specs.Read.{fieldAt, walk, sampleAt, nominalTo, rowOf, codesTo, clippedTo, headerOf, sliceBy, sliceAfter}
+use Rattle.block.specs.declared.Judged.{Judged}
+use Rattle.block.specs.Read.{walk, sampleAt, withinTo, judge, rowOf, codesTo, header, headerOf, sliceBy, sliceAfter}
 use Rattle.block.specs.Inner.{Decodable}
-use Rattle.block.proofs.Walking.{passed, walk-accepted}
-use Rattle.block.proofs.Nominal.{nominal-at}
+use Rattle.block.proofs.Walking.{Sectioned, walk-accepted}
+use Rattle.block.proofs.Ranges.{within-at}
 use Rattle.block.proofs.Decoding.{length-codes, length-kept}
 
--- the header of a block that was walked
-abbrev pub headed : List ℕ → Walked → Header
-headed bs b = record { system = b .system; row = fieldAt bs 1; samples = b .samples; clipped = clippedTo (rowOf (b .system) bs (b .samples)) (b .samples) }
+-- a judged block has its samples, no byte more, and nominal words
+pub record Sound (bs : List ℕ) (b : Judged) : Type 0 where
+  pub shape : Sectioned bs (b .samples)
+  pub row : b .row ≤ 4319
+  pub nominal : withinTo (nominalWords (b .system)) (sampleAt bs (b .samples)) (b .samples) ≡ true
+
+pub judged-sound : (bs : List ℕ) (b : Judged) → judge bs ≡ accepted b → Sound bs b
+unfolding judge
+judged-sound bs b e =
+    let walked = accepted-first (walk bs) _ b e in
+    let a = walked .0 in
+    let tested = required (withinTo (nominalWords (a .system)) (sampleAt bs (a .samples)) (a .samples)) 6 a b (walked .2) in
+    let shape = walk-accepted bs a (walked .1) in
+    rw (← (tested .1)) record { shape = shape .0; row = shape .1; nominal = tested .0 }
 
 module _ (bs : List ℕ) (room : ℕ) where
-  pub walk-refused : (n : ℕ) → walk bs ≡ refused n → headerOf bs room ≡ refused n
+  -- what judging refuses is refused whatever the room is
+  pub judge-refused : (n : ℕ) → judge bs ≡ refused n → headerOf bs room ≡ refused n
   unfolding headerOf
-  walk-refused n e = rw e
+  judge-refused n e = rw e
 
-  module _ (b : Walked) (e : walk bs ≡ accepted b) where
-    pub word-refused : nominalTo (b .system) (sampleAt bs (b .samples)) (b .samples) ≡ false → headerOf bs room ≡ refused 6
+  module _ (b : Judged) (e : judge bs ≡ accepted b) where
+    pub row-accepted : 3 * b .samples ≤ room → headerOf bs room ≡ accepted (header b bs)
     unfolding headerOf
-    word-refused f = rw (e, f)
+    row-accepted h = rw (e, le-leb (3 * b .samples) room h)
 
-    module _ (f : nominalTo (b .system) (sampleAt bs (b .samples)) (b .samples) ≡ true) where
-      pub room-refused : room < 3 * b .samples → headerOf bs room ≡ refused 5
-      unfolding headerOf
-      room-refused h = rw (e, f, lt-leb (3 * b .samples) room h)
-
-      pub row-accepted : 3 * b .samples ≤ room → headerOf bs room ≡ accepted (headed bs b)
-      unfolding headerOf
-      row-accepted h = rw (e, f, le-leb (3 * b .samples) room h)
-
-      pub decodable : 3 * b .samples ≤ room → Decodable (scale (b .system)) bs (b .samples) room
-      decodable h =
-          let shape = walk-accepted bs b e .0 in
-          record {
-            long = omega (arith, shape .size);
-            narrow = shape .most;
-            nominal = λ i l. nominal-words (b .system) (sampleAt bs (b .samples) i) (nominal-at (b .system) (sampleAt bs (b .samples)) (b .samples) i f l);
-            fits = h;
-          }
+    pub decodable : 3 * b .samples ≤ room → Decodable bs (b .samples) room
+    decodable h =
+        let sound = judged-sound bs b e in
+        record {
+          long = omega (arith, sound .shape .size);
+          narrow = sound .shape .most;
+          words = λ i l. twelve-bits (b .system) _ (within-at (nominalWords (b .system)) (sampleAt bs (b .samples)) (b .samples) i (sound .nominal) l);
+          fits = h;
+        }
 
 module _ (bs slice : List ℕ) where
   pub slice-stays : (n : ℕ) → headerOf bs (length slice) ≡ refused n → slice ≡ sliceAfter bs slice
@@ -73,18 +76,16 @@ pub record InBounds (bs : List ℕ) (room : ℕ) (h : Header) : Type 0 where
 pub accepted-has-its-length : (bs : List ℕ) (room : ℕ) (h : Header) → headerOf bs room ≡ accepted h → InBounds bs room h
 unfolding headerOf
 accepted-has-its-length bs room h e =
-    let walked = accepted-first (walk bs) _ h e in
-    let b = walked .0 in
-    let tested = passed (nominalTo (b .system) (sampleAt bs (b .samples)) (b .samples)) 6 _ h (walked .2) in
-    let ends = required (leb (3 * b .samples) room) 5 (headed bs b) h (tested .1) in
-    let shape = walk-accepted bs b (walked .1) in
-    let samples = ap (λ (t : Header). t .samples) (ends .1) in
-    record {
-      size = omega (arith, shape .0 .size);
-      some = omega (arith, shape .0 .some);
-      most = omega (arith, shape .0 .most);
-      row = omega (arith, shape .1, ap (λ (t : Header). t .row) (ends .1));
-      fits = omega (arith, leb-true (3 * b .samples) room (ends .0));
+    let judged = accepted-first (judge bs) _ h e in
+    let b = judged .0 in
+    let ends = required (leb (3 * b .samples) room) 5 (header b bs) h (judged .2) in
+    let sound = judged-sound bs b (judged .1) in
+    rw (← (ends .1)) record {
+      size = sound .shape .size;
+      some = sound .shape .some;
+      most = sound .shape .most;
+      row = sound .row;
+      fits = leb-true (3 * b .samples) room (ends .0);
     }
 
 -- reading neither grows the slice nor shortens it

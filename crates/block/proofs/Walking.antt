@@ -15,10 +15,10 @@ use Rattle.exact.proofs.Outcome.{accepted-first, required}
 use Rattle.systems.specs.declared.Range.{Range}
 use Rattle.systems.specs.Systems.{named, within}
 use Rattle.block.specs.declared.Counted.{Counted}
-use Rattle.block.specs.declared.Walked.{Walked}
+use Rattle.block.specs.declared.Judged.{Judged}
 use Rattle.block.specs.Read.{fieldAt, sectionAt, widthOk, sections, walk}
 use Rattle.block.specs.Inner.{countOutcome}
-use Rattle.block.proofs.Nominal.{each}
+use Rattle.block.proofs.Ranges.{each}
 
 -- the range of one count
 abbrev pub only : ℕ → Range
@@ -75,12 +75,12 @@ sections-accepted bs w e =
       most = omega (arith, leb-true n 7680 (t .1), ends .1);
     }
 
-pub walk-accepted : (bs : List ℕ) (b : Walked) → walk bs ≡ accepted b → Sectioned bs (b .samples) × (fieldAt bs 1 ≤ 4319)
+pub walk-accepted : (bs : List ℕ) (b : Judged) → walk bs ≡ accepted b → Sectioned bs (b .samples) × (b .row ≤ 4319)
 unfolding walk
 walk-accepted bs b e =
     let long = passed (leb 3 (length bs)) 8 _ b e in
     let system = accepted-first (named (getD bs 0 0)) _ b (long .1) in
     let row = passed (leb (fieldAt bs 1) 4319) 10 _ b (system .2) in
     let counted = accepted-first (sections bs) _ b (row .1) in
-    let same : counted .0 ≡ b .samples = let h = counted .2 in cc in
-    (sections-accepted bs (b .samples) (counted .1 ∙ ap accepted same), leb-true (fieldAt bs 1) 4319 (row .0))
+    let is : record { system = system .0; row = fieldAt bs 1; samples = counted .0 } ≡ b = let h = counted .2 in cc in
+    rw (← is) (sections-accepted bs (counted .0) (counted .1), leb-true (fieldAt bs 1) 4319 (row .0))

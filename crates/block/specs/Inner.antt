@@ -12,36 +12,30 @@ use Rattle.systems.specs.declared.Matrix.{Matrix}
 use Rattle.systems.specs.declared.Range.{Range}
 use Rattle.systems.specs.Systems.{within}
 use Rattle.systems.specs.Refusals.{refusal}
+use Rattle.matrix.specs.declared.Clips.{Clips}
 use Rattle.matrix.specs.declared.Words.{Words}
 use Rattle.matrix.specs.declared.Unclipped.{Unclipped}
-use Rattle.matrix.specs.Triples.{natural, clipped, beyond}
-use Rattle.matrix.specs.Inner.{NominalWords, unclippedAt}
-use Rattle.block.specs.declared.Walked.{Walked}
+use Rattle.matrix.specs.Triples.{natural, noClips, _plus_, clipped, beyond}
+use Rattle.matrix.specs.Inner.{TwelveBitWords, unclippedAt}
 use Rattle.block.specs.declared.Counted.{Counted}
 use Rattle.block.specs.declared.Counted.the-variants as counted
-use Rattle.block.specs.declared.Found.{Found}
-use Rattle.block.specs.declared.Found.the-variants as found
 use Rattle.block.specs.Read.{fieldAt, sampleAt, rgb}
 
--- what the answers of the walk and of a section say
+-- what the answer of a section says
 abbrev pub countOutcome : Counted → Outcome ℕ
 countOutcome (counted.Count w) = accepted w
 countOutcome (counted.Refused r) = refused (refusal r)
-
-abbrev pub walkOutcome : Found → Outcome Walked
-walkOutcome (found.Block b) = accepted b
-walkOutcome (found.Refused r) = refused (refusal r)
 
 -- the first n words from a place are in a range
 unfoldable pub inRange : Range → List ℕ → ℕ → ℕ → Bool
 inRange r bs at zero = true
 inRange r bs at (suc n) = inRange r bs at n && within r (fieldAt bs (at + 2 * n))
 
--- a block of w samples that are nominal at a scale, and room for their codes
-pub record Decodable (s : ℕ) (bs : List ℕ) (w room : ℕ) : Type 0 where
+-- a block of w samples of 12 bits at most, and room for their codes
+pub record Decodable (bs : List ℕ) (w room : ℕ) : Type 0 where
   pub long : 9 + 6 * w ≤ length bs
   pub narrow : w ≤ 7680
-  pub nominal : (i : ℕ) → i < w → NominalWords s (sampleAt bs w i)
+  pub words : (i : ℕ) → i < w → TwelveBitWords (sampleAt bs w i)
   pub fits : 3 * w ≤ room
 
 -- a component as the slice holds it until it is clipped, and back
@@ -85,11 +79,11 @@ atLeast v low = oneOf (ltb v low) low v
 abbrev pub atMost : ℕ → ℕ → ℕ
 atMost v high = oneOf (ltb high v) high v
 
--- biased components clipped to a range, and how many of them were beyond it
+-- biased components clipped to a range, and their clips
 unfoldable pub clippedAll : Range → List ℕ → List ℕ
 clippedAll r [] = []
 clippedAll r (v ∷ vs) = clipped r (unbiased v) ∷ clippedAll r vs
 
-unfoldable pub beyondAll : Range → List ℕ → ℕ
-beyondAll r [] = 0
-beyondAll r (v ∷ vs) = beyond r (unbiased v) + beyondAll r vs
+unfoldable pub beyondAll : Range → List ℕ → Clips
+beyondAll r [] = noClips
+beyondAll r (v ∷ vs) = beyond r (unbiased v) plus beyondAll r vs

@@ -7,15 +7,18 @@ use lib.Dec.{leb, eqb}
 use lib.ListN.{length, getD, drop}
 use Rattle.exact.specs.Outcome.{Outcome, accepted, refused, _and-then_, require}
 use Rattle.systems.specs.declared.Codes.{Codes}
-use Rattle.systems.specs.declared.Matrix.{Matrix}
 use Rattle.systems.specs.declared.System.{System}
-use Rattle.systems.specs.Systems.{named, matrix, scale}
+use Rattle.systems.specs.Systems.{named, matrix, scale, nominal}
 use Rattle.systems.specs.Refusals.{refusal}
+use Rattle.matrix.specs.declared.Clips.{Clips}
 use Rattle.matrix.specs.declared.Clipped.{Clipped}
 use Rattle.matrix.specs.declared.Words.{Words}
-use Rattle.matrix.specs.Triples.{codesAt, wordsWithin}
+use Rattle.matrix.specs.declared.WordRanges.{WordRanges}
+use Rattle.matrix.specs.Triples.{noClips, _plus_, codesAt, nominalWords, wordsWithin}
 use Rattle.block.specs.declared.Header.{Header}
-use Rattle.block.specs.declared.Walked.{Walked}
+use Rattle.block.specs.declared.Judged.{Judged}
+use Rattle.block.specs.declared.Judgement.{Judgement}
+use Rattle.block.specs.declared.Judgement.the-variants as judgement
 use Rattle.block.specs.declared.BlockRead.{BlockRead}
 use Rattle.block.specs.declared.BlockRead.the-variants as answer
 
@@ -45,26 +48,30 @@ sections bs =
     (accepted w)
 
 -- the walk from the front: system, row number and sections
-unfoldable pub walk : List ℕ → Outcome Walked
+unfoldable pub walk : List ℕ → Outcome Judged
 walk bs =
     require (leb 3 (length bs)) 8
     (named (getD bs 0 0) and-then λ y.
     require (leb (fieldAt bs 1) 4319) 10
     (sections bs and-then λ w.
-    accepted (record { system = y; samples = w })))
+    accepted (record { system = y; row = fieldAt bs 1; samples = w })))
 
 -- the words of sample i in a block of w samples
 abbrev pub sampleAt : List ℕ → ℕ → ℕ → Words
 sampleAt bs w i = record { y = fieldAt bs (5 + 2 * i); cb = fieldAt bs (7 + 2 * w + 2 * i); cr = fieldAt bs (9 + 4 * w + 2 * i) }
 
--- the words of a row's first n samples are nominal
-unfoldable pub nominalTo : System → (ℕ → Words) → ℕ → Bool
-nominalTo y sample zero = true
-nominalTo y sample (suc n) = nominalTo y sample n && wordsWithin y (sample n)
+-- the words of a row's first n samples are in their ranges
+unfoldable pub withinTo : WordRanges → (ℕ → Words) → ℕ → Bool
+withinTo r sample zero = true
+withinTo r sample (suc n) = withinTo r sample n && wordsWithin r (sample n)
+
+-- a block judged by itself: after the walk 6
+unfoldable pub judge : List ℕ → Outcome Judged
+judge bs = walk bs and-then λ b. require (withinTo (nominalWords (b .system)) (sampleAt bs (b .samples)) (b .samples)) 6 (accepted b)
 
 -- the codes of a row's samples, from their words
-abbrev pub decoded : Matrix → ℕ → (ℕ → Words) → ℕ → Clipped
-decoded x s sample i = codesAt x s (sample i)
+abbrev pub decoded : System → (ℕ → Words) → ℕ → Clipped
+decoded y sample i = codesAt (matrix y) (scale y) (nominal y) (sample i)
 
 -- R, G and B of a sample
 abbrev pub rgb : Codes → List ℕ
@@ -75,24 +82,22 @@ unfoldable pub codesTo : (ℕ → Clipped) → ℕ → List ℕ
 codesTo sample zero = []
 codesTo sample (suc n) = codesTo sample n ++ rgb (sample n .codes)
 
--- how many of them were clipped
-unfoldable pub clippedTo : (ℕ → Clipped) → ℕ → ℕ
-clippedTo sample zero = 0
-clippedTo sample (suc n) = clippedTo sample n + sample n .count
+-- their clips
+unfoldable pub clipsTo : (ℕ → Clipped) → ℕ → Clips
+clipsTo sample zero = noClips
+clipsTo sample (suc n) = clipsTo sample n plus sample n .clips
 
 -- the codes of a block of w samples
 abbrev pub rowOf : System → List ℕ → ℕ → ℕ → Clipped
-rowOf y bs w = decoded (matrix y) (scale y) (sampleAt bs w)
+rowOf y bs w = decoded y (sampleAt bs w)
 
--- reading into a slice of so many words: after the walk 6, then 5
+-- what is read of a judged block
+abbrev pub header : Judged → List ℕ → Header
+header b bs = record { system = b .system; row = b .row; samples = b .samples; clips = clipsTo (rowOf (b .system) bs (b .samples)) (b .samples) }
+
+-- reading into a slice of so many words: 5 after what the block itself is refused for
 unfoldable pub headerOf : List ℕ → ℕ → Outcome Header
-headerOf bs room =
-    walk bs and-then λ b.
-    let y = b .system in
-    let w = b .samples in
-    require (nominalTo y (sampleAt bs w) w) 6
-    (require (leb (3 * w) room) 5
-    (accepted (record { system = y; row = fieldAt bs 1; samples = w; clipped = clippedTo (rowOf y bs w) w })))
+headerOf bs room = judge bs and-then λ b. require (leb (3 * b .samples) room) 5 (accepted (header b bs))
 
 -- the slice after reading: the codes at its front where the block is accepted, and the rest as it was
 abbrev pub sliceBy : Outcome Header → List ℕ → List ℕ → List ℕ
@@ -102,7 +107,11 @@ sliceBy (refused n) bs slice = slice
 abbrev pub sliceAfter : List ℕ → List ℕ → List ℕ
 sliceAfter bs slice = sliceBy (headerOf bs (length slice)) bs slice
 
--- what the answer says
+-- what the answers say
+abbrev pub judgedOutcome : Judgement → Outcome Judged
+judgedOutcome (judgement.Block b) = accepted b
+judgedOutcome (judgement.Refused r) = refused (refusal r)
+
 abbrev pub headerOutcome : BlockRead → Outcome Header
 headerOutcome (answer.Row h) = accepted h
 headerOutcome (answer.Refused r) = refused (refusal r)

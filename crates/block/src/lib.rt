@@ -10,7 +10,9 @@ pub use layout::cr_count;
 pub use layout::cr_word;
 pub use layout::luma_word;
 pub use layout::size;
+use matrix::Clips;
 use matrix::Unclipped;
+use matrix::WordRanges;
 use matrix::Words;
 use matrix::unclipped_by;
 use systems::MOST_ROWS;
@@ -23,37 +25,38 @@ use systems::System;
 ghost use mathlib.Core.Path.{_≡_};
 ghost use mathlib.Core.List.{_++_};
 ghost use Prim.Native.Nat.{_+_, _*_, _^_, _<_, _≤_};
-ghost use lib.Dec.{eqb};
+ghost use lib.Dec.{leb, eqb};
 ghost use lib.IntN.{natAbs};
 ghost use lib.ListN.{length, take, drop};
 ghost use lib.Seq.{sets};
 ghost use Rattle.systems.specs.Systems.{scale, within};
 ghost use Rattle.matrix.specs.Triples.{clipped, beyond};
 ghost use Rattle.block.specs.Block.{size};
-ghost use Rattle.block.specs.Read.{fieldAt, sectionAt, sections, walk, sampleAt, nominalTo, rgb, codesTo, clippedTo, rowOf, headerOf, sliceAfter, headerOutcome};
-ghost use Rattle.block.specs.Inner.{countOutcome, walkOutcome, inRange, Decodable, biased, unbiased, BiasFits, biasedTriple, biasedRow, triplesTo, Clippable, atLeast, atMost, clippedAll, beyondAll};
+ghost use Rattle.block.specs.Read.{fieldAt, sectionAt, sections, walk, sampleAt, withinTo, judge, rgb, codesTo, rowOf, header, headerOf, sliceAfter, judgedOutcome, headerOutcome};
+ghost use Rattle.block.specs.Inner.{countOutcome, inRange, Decodable, biased, unbiased, BiasFits, biasedTriple, biasedRow, triplesTo, Clippable, atLeast, atMost, clippedAll, beyondAll};
 
-// What a block says of its row, and how many components were clipped in its codes.
+// What a block that can be read says of its row.
+pub struct Judged {
+    pub system: System,
+    pub row: u16,
+    pub samples: u16,
+}
+
+pub enum Judgement {
+    Block(Judged),
+    Refused(Refusal),
+}
+
+// The same of a block that was read, and the clips of its codes.
 pub struct Header {
     pub system: System,
     pub row: u16,
     pub samples: u16,
-    pub clipped: u32,
+    pub clips: Clips,
 }
 
 pub enum BlockRead {
     Row(Header),
-    Refused(Refusal),
-}
-
-// What the walk finds.
-struct Walked {
-    system: System,
-    samples: u16,
-}
-
-enum Found {
-    Block(Walked),
     Refused(Refusal),
 }
 
@@ -74,48 +77,66 @@ pub fn read_block(bytes: &[u8], codes: &mut [u16]) -> BlockRead
     ensures { λ r. ⌜ headerOutcome r ≡ headerOf (now (bytes .entry)) (length (now (codes .entry))) ⌝ }
     ensures { λ r. ⌜ now (codes .exit) ≡ sliceAfter (now (bytes .entry)) (now (codes .entry)) ⌝ }
 {
-    match walk(bytes) {
-        Found::Block(b) => {
-            let system = b.system;
-            let samples = b.samples;
-            let nominal = all_nominal(system, bytes, samples);
-            let room = 3 * samples as usize <= codes.len();
-            if !nominal {
-                return BlockRead::Refused(Refusal::Code);
-            }
-            if !room {
+    match judge(bytes) {
+        Judgement::Block(b) => {
+            if !b.fits(codes.len()) {
                 return BlockRead::Refused(Refusal::Output);
             }
-            let clipped = decode(system, bytes, codes, samples as usize);
-            BlockRead::Row(Header {
-                system,
-                row: field_at(bytes, ROW_NUMBER),
-                samples,
-                clipped,
-            })
+            BlockRead::Row(decode(b, bytes, codes))
         }
-        Found::Refused(r) => BlockRead::Refused(r),
+        Judgement::Refused(r) => BlockRead::Refused(r),
+    }
+}
+
+// Judges a block by its bytes alone. Refused as in reading, but for 5.
+pub fn judge(bytes: &[u8]) -> Judgement
+    ensures { λ r. ⌜ judgedOutcome r ≡ judge (now (bytes .entry)) ⌝ }
+{
+    match walk(bytes) {
+        Judgement::Block(b) => {
+            let system = b.system;
+            if all_in(WordRanges::nominal(system), bytes, b.samples) {
+                Judgement::Block(b)
+            } else {
+                Judgement::Refused(Refusal::Code)
+            }
+        }
+        Judgement::Refused(r) => Judgement::Refused(r),
+    }
+}
+
+impl Judged {
+    // Whether so many places hold the codes.
+    pub fn fits(self, room: usize) -> bool
+        ensures { λ r. ⌜ r ≡ leb (3 * self .samples) room ⌝ }
+    {
+        3 * self.samples as usize <= room
     }
 }
 
 // From the front: system, row number and sections.
-fn walk(bytes: &[u8]) -> Found
-    ensures { λ r. ⌜ walkOutcome r ≡ walk (now (bytes .entry)) ⌝ }
+fn walk(bytes: &[u8]) -> Judgement
+    ensures { λ r. ⌜ judgedOutcome r ≡ walk (now (bytes .entry)) ⌝ }
 {
     if bytes.len() < LUMA_COUNT {
-        return Found::Refused(Refusal::BlockEnd);
+        return Judgement::Refused(Refusal::BlockEnd);
     }
     match System::from_number(bytes[SYSTEM] as u32) {
         Named::Known(system) => {
-            if LAST_ROW < field_at(bytes, ROW_NUMBER) {
-                return Found::Refused(Refusal::RowNumber);
+            let row = field_at(bytes, ROW_NUMBER);
+            if LAST_ROW < row {
+                return Judgement::Refused(Refusal::RowNumber);
             }
             match sections(bytes) {
-                Counted::Count(samples) => Found::Block(Walked { system, samples }),
-                Counted::Refused(r) => Found::Refused(r),
+                Counted::Count(samples) => Judgement::Block(Judged {
+                    system,
+                    row,
+                    samples,
+                }),
+                Counted::Refused(r) => Judgement::Refused(r),
             }
         }
-        Named::Unknown => Found::Refused(Refusal::System),
+        Named::Unknown => Judgement::Refused(Refusal::System),
     }
 }
 
@@ -178,16 +199,15 @@ fn field_at(bytes: &[u8], at: usize) -> u16
     low + 256 * high
 }
 
-// Whether the words of all three sections are nominal.
-fn all_nominal(system: System, bytes: &[u8], samples: u16) -> bool
+// Whether the words of all three sections are in their ranges.
+fn all_in(ranges: WordRanges, bytes: &[u8], samples: u16) -> bool
     requires { ⌜ (size samples ≤ length (now bytes)) × (samples ≤ 7680) ⌝ }
-    ensures { λ r. ⌜ r ≡ nominalTo system (sampleAt (now (bytes .entry)) samples) samples ⌝ }
+    ensures { λ r. ⌜ r ≡ withinTo ranges (sampleAt (now (bytes .entry)) samples) samples ⌝ }
 {
     let n = samples as usize;
-    let range = system.nominal_difference();
-    let y = outside(bytes, luma_word(0), n, system.nominal());
-    let cb = outside(bytes, cb_word(n, 0), n, range);
-    let cr = outside(bytes, cr_word(n, 0), n, range);
+    let y = outside(bytes, luma_word(0), n, ranges.luma);
+    let cb = outside(bytes, cb_word(n, 0), n, ranges.difference);
+    let cr = outside(bytes, cr_word(n, 0), n, ranges.difference);
     y + cb + cr == 0
 }
 
@@ -208,19 +228,27 @@ fn outside(bytes: &[u8], at: usize, count: usize, range: Range) -> u16
     bad
 }
 
-// Decodes the samples, and gives how many components were clipped.
-fn decode(system: System, bytes: &[u8], codes: &mut [u16], samples: usize) -> u32
-    requires { ⌜ Decodable (scale system) (now bytes) samples (length (now codes)) ⌝ }
-    ensures { λ r. ⌜ r ≡ clippedTo (rowOf system (now (bytes .entry)) samples) samples ⌝ }
-    ensures { λ r. ⌜ now (codes .exit) ≡ codesTo (rowOf system (now (bytes .entry)) samples) samples ++ drop (3 * samples) (now (codes .entry)) ⌝ }
+// Decodes the samples of a judged block into the front of a slice.
+fn decode(b: Judged, bytes: &[u8], codes: &mut [u16]) -> Header
+    requires { ⌜ Decodable (now bytes) (b .samples) (length (now codes)) ⌝ }
+    ensures { λ r. ⌜ r ≡ header b (now (bytes .entry)) ⌝ }
+    ensures { λ r. ⌜ now (codes .exit) ≡ codesTo (rowOf (b .system) (now (bytes .entry)) (b .samples)) (b .samples) ++ drop (3 * b .samples) (now (codes .entry)) ⌝ }
 {
+    let system = b.system;
+    let samples = b.samples as usize;
     put_unclipped(system.matrix(), system, bytes, codes, samples);
-    clip_all(system.nominal(), codes, 3 * samples) as u32
+    let clips = clip_all(system.nominal(), codes, 3 * samples);
+    Header {
+        system,
+        row: b.row,
+        samples: b.samples,
+        clips,
+    }
 }
 
 // The samples' R, G and B before they are clipped.
 fn put_unclipped(x: Matrix, y: System, bytes: &[u8], codes: &mut [u16], samples: usize)
-    requires { ⌜ Decodable (scale y) (now bytes) samples (length (now codes)) ⌝ }
+    requires { ⌜ Decodable (now bytes) samples (length (now codes)) ⌝ }
     ensures { λ r. ⌜ now (codes .exit) ≡ triplesTo (biasedRow x (scale y) (sampleAt (now (bytes .entry)) samples)) samples ++ drop (3 * samples) (now (codes .entry)) ⌝ }
 {
     let mut i: usize = 0;
@@ -260,9 +288,9 @@ fn biased(v: i64) -> u16
     (v + BIAS as i64) as u16
 }
 
-// Clips the first components of a slice, which are biased, and counts those beyond the range. A loop of its own, so that
+// Clips the first components of a slice, which are biased, and counts the clips. A loop of its own, so that
 // several are clipped at a time.
-fn clip_all(range: Range, codes: &mut [u16], count: usize) -> u16
+fn clip_all(range: Range, codes: &mut [u16], count: usize) -> Clips
     requires { ⌜ Clippable range × (count ≤ length (now codes)) × (count ≤ 3 * 7680) ⌝ }
     ensures { λ r. ⌜ r ≡ beyondAll range (take count (now (codes .entry))) ⌝ }
     ensures { λ r. ⌜ now (codes .exit) ≡ clippedAll range (take count (now (codes .entry))) ++ drop count (now (codes .entry)) ⌝ }
@@ -275,7 +303,7 @@ fn clip_all(range: Range, codes: &mut [u16], count: usize) -> u16
         codes[i] = clip(range, v);
         i += 1;
     }
-    bad
+    Clips { total: bad as u32 }
 }
 
 // The nearer end of the range where a biased component is beyond it.
@@ -301,7 +329,7 @@ fn at_most(v: u16, high: u16) -> u16
 // 1 where a biased component is beyond the range. Both tests are made, so that a loop can take several components at a time.
 fn beyond(n: Range, v: u16) -> u16
     requires { ⌜ Clippable n ⌝ }
-    ensures { λ r. ⌜ (r ≡ beyond n (unbiased v)) × (r ≤ 1) ⌝ }
+    ensures { λ r. ⌜ (r ≡ beyond n (unbiased v) .total) × (r ≤ 1) ⌝ }
 {
     (v < n.low + BIAS) as u16 + (n.high + BIAS < v) as u16
 }

@@ -33,7 +33,7 @@ answer (signal n bits) =
     signalCodes n (record { r = e; g = e; b = e }) and-then λ c. accepted (c .r ∷ c .g ∷ c .b ∷ [])
 answer (codes n r g b) = wordsOfCodes n (record { r = r; g = g; b = b }) and-then λ w. accepted (w .y ∷ w .cb ∷ w .cr ∷ [])
 answer (words n y cb cr) =
-    codesOfWords n (record { y = y; cb = cb; cr = cr }) and-then λ c. accepted (c .codes .r ∷ c .codes .g ∷ c .codes .b ∷ c .count ∷ [])
+    codesOfWords n (record { y = y; cb = cb; cr = cr }) and-then λ c. accepted (c .codes .r ∷ c .codes .g ∷ c .codes .b ∷ c .clips .total ∷ [])
 
 record Row : Type 0 where
   given : Case

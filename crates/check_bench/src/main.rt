@@ -94,7 +94,7 @@ fn of_words(system: u32, y: u16, cb: u16, cr: u16) {
         Decoded::Codes(c) => {
             three(c.codes.r, c.codes.g, c.codes.b);
             io::write_all(STDOUT_FILENO, b" clipped ");
-            number(c.count as u64);
+            number(c.clips.total as u64);
         }
         Decoded::Refused(r) => refused(r),
     }

@@ -47,7 +47,7 @@ abbrev pub sizeOf : Case → ℕ
 sizeOf c = 16 + c .length + 6 * c .samples
 
 abbrev pub sameHeader : Header → Case → Bool
-sameHeader h c = eqb (number (h .system)) (c .system) && eqb (h .row) (c .row) && eqb (h .samples) (c .samples) && eqb (h .clipped) (c .clipped)
+sameHeader h c = eqb (number (h .system)) (c .system) && eqb (h .row) (c .row) && eqb (h .samples) (c .samples) && eqb (h .clips .total) (c .clipped)
 
 -- the answer is the case's: its header where the refusal is 0, or its refusal
 abbrev pub agrees : Outcome Header → Case → Bool

@@ -131,6 +131,6 @@ impl Case {
         (system.number() == self.system)
             & (header.row == self.row)
             & (header.samples == self.samples)
-            & (header.clipped == self.clipped)
+            & (header.clips.total == self.clipped)
     }
 }

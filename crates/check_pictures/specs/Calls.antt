@@ -82,7 +82,7 @@ rowsOf Closed = 0
 
 -- a header is that of the row that the call was, the last of the rows accepted
 abbrev pub sameHeader : Header → Call → Bool
-sameHeader h c = eqb (number (h .system)) (c .system) && eqb (h .row + 1) (c .rows) && eqb (h .samples) (c .samples) && eqb (h .clipped) (c .clipped)
+sameHeader h c = eqb (number (h .system)) (c .system) && eqb (h .row + 1) (c .rows) && eqb (h .samples) (c .samples) && eqb (h .clips .total) (c .clipped)
 
 -- a block reads as this row
 abbrev pub readAs : Outcome Header → Call → Bool

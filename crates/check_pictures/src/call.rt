@@ -153,6 +153,6 @@ impl Call {
         (system.number() == self.system)
             & (header.row as u32 + 1 == self.rows as u32)
             & (header.samples == self.samples)
-            & (header.clipped == self.clipped)
+            & (header.clips.total == self.clipped)
     }
 }

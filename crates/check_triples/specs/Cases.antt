@@ -45,7 +45,7 @@ codesCase bs i = record { system = u32At bs i; refusal = u16At bs (i + 4); words
 
 -- the call's answer is the record's: its codes and clipped count where the refusal is 0, or its refusal
 abbrev pub codesAgree : Outcome Clipped → CodesCase → Bool
-codesAgree (accepted d) c = eqb (c .refusal) 0 && (eqb (d .count) (c .count) && sameCodes (d .codes) (c .codes))
+codesAgree (accepted d) c = eqb (c .refusal) 0 && (eqb (d .clips .total) (c .count) && sameCodes (d .codes) (c .codes))
 codesAgree (refused n) c = eqb n (c .refusal)
 
 abbrev pub codesMet : CodesCase → Bool

@@ -56,7 +56,7 @@ impl Case {
         match matrix::codes_of_words(self.system, self.words) {
             Decoded::Codes(found) => {
                 let same = same::codes(found.codes, self.codes);
-                (self.refusal == 0) & ((found.count == self.count) & same)
+                (self.refusal == 0) & ((found.clips.total == self.count) & same)
             }
             Decoded::Refused(refusal) => refusal.number() == self.refusal,
         }

@@ -62,7 +62,7 @@ codesNear n (refused k) f d = off f
 
 -- our clipped count is the number of zimg's codes beyond the nominal range
 abbrev pub countMet : Outcome Clipped → ℕ → Bool
-countMet (accepted c) k = eqb (c .count) k
+countMet (accepted c) k = eqb (c .clips .total) k
 countMet (refused n) k = false
 
 -- the comparison after one sample more

@@ -100,7 +100,7 @@ fn has_count(system: u32, words: Words, count: u32) -> bool
     ensures { λ r. ⌜ r ≡ countMet (codesOfWords system words) count ⌝ }
 {
     match matrix::codes_of_words(system, words) {
-        Decoded::Codes(clipped) => clipped.count == count,
+        Decoded::Codes(clipped) => clipped.clips.total == count,
         Decoded::Refused(_) => false,
     }
 }

@@ -47,9 +47,9 @@ wordsAnswer (accepted w) = record { refusal = 0; words = w }
 wordsAnswer (refused n) = record { refusal = n; words = record { y = 0; cb = 0; cr = 0 } }
 
 abbrev pub decodedAnswer : Outcome Clipped → DecodedAnswer
-decodedAnswer (accepted c) = record { refusal = 0; clipped = c .count; codes = c .codes }
+decodedAnswer (accepted c) = record { refusal = 0; clipped = c .clips .total; codes = c .codes }
 decodedAnswer (refused n) = record { refusal = n; clipped = 0; codes = noCodes }
 
 abbrev pub blockAnswer : Outcome Header → BlockAnswer
-blockAnswer (accepted h) = record { refusal = 0; system = number (h .system); clipped = h .clipped; row = h .row; samples = h .samples }
+blockAnswer (accepted h) = record { refusal = 0; system = number (h .system); clipped = h .clips .total; row = h .row; samples = h .samples }
 blockAnswer (refused n) = record { refusal = n; system = 0; clipped = 0; row = 0; samples = 0 }

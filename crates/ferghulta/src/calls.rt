@@ -150,7 +150,7 @@ pub extern "C" fn ferghulta_codes_of_words(system: u32, words: Words) -> Decoded
             let codes = c.codes;
             DecodedAnswer {
                 refusal: 0,
-                clipped: c.count,
+                clipped: c.clips.total,
                 codes,
             }
         }
@@ -173,7 +173,7 @@ pub extern "C" fn ferghulta_read_block(bytes: &[u8], codes: &mut [u16]) -> Block
             BlockAnswer {
                 refusal: 0,
                 system: system.number(),
-                clipped: h.clipped,
+                clipped: h.clips.total,
                 row: h.row,
                 samples: h.samples,
             }

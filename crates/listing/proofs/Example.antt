@@ -5,7 +5,7 @@ use mathlib.Core.List.{List, [], _∷_, _++_}
 use Prim.Native.Nat.{ℕ}
 use Rattle.exact.specs.Signed.{rounded}
 use Rattle.matrix.specs.Triples.{codesAt}
-use Rattle.block.specs.Read.{sections, walk, nominalTo, codesTo, clippedTo, headerOf}
+use Rattle.block.specs.Read.{sections, walk, withinTo, judge, codesTo, clipsTo, headerOf}
 use Rattle.listing.specs.Listing.{digitsTo, systemWord, rowWord, samplesWord, clippedWord, lineEnd, headerLine, line, linesTo, listing}
 
 -- 01 00 00 01 00 EB 00 01 00 80 00 01 00 80 00
@@ -18,5 +18,5 @@ white = 50 ∷ 51 ∷ 53 ∷ []
 
 -- 'system 1 row 0 samples 1 clipped 0', '235 235 235'
 pub grey-listed : listing grey ≡ systemWord ++ 49 ∷ rowWord ++ 48 ∷ samplesWord ++ 49 ∷ clippedWord ++ 48 ∷ lineEnd ++ white ++ 32 ∷ white ++ 32 ∷ white ++ lineEnd
-unfolding rounded codesAt sections walk nominalTo codesTo clippedTo headerOf digitsTo headerLine line linesTo
+unfolding rounded codesAt sections walk withinTo judge codesTo clipsTo headerOf digitsTo headerLine line linesTo
 grey-listed = refl

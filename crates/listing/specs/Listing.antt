@@ -52,7 +52,7 @@ refusedWord = 114 ∷ 101 ∷ 102 ∷ 117 ∷ 115 ∷ 101 ∷ 100 ∷ 32 ∷ []
 unfoldable pub headerLine : Header → List ℕ
 headerLine h =
     systemWord ++ decimal (number (h .system)) ++ rowWord ++ decimal (h .row)
-    ++ samplesWord ++ decimal (h .samples) ++ clippedWord ++ decimal (h .clipped) ++ lineEnd
+    ++ samplesWord ++ decimal (h .samples) ++ clippedWord ++ decimal (h .clips .total) ++ lineEnd
 
 -- R, G and B of a sample
 unfoldable pub line : Codes → List ℕ

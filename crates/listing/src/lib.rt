@@ -62,7 +62,7 @@ fn put_header(text: &mut [u8], header: Header) -> usize
     let after_system = put_field(text, 0, b"system ", system.number());
     let after_row = put_field(text, after_system, b" row ", header.row as u32);
     let after_samples = put_field(text, after_row, b" samples ", header.samples as u32);
-    let after_clipped = put_field(text, after_samples, b" clipped ", header.clipped);
+    let after_clipped = put_field(text, after_samples, b" clipped ", header.clips.total);
     text::put_word(text, after_clipped, b"\n")
 }
 

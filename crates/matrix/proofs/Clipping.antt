@@ -4,7 +4,7 @@ use mathlib.Core.Path.{_≡_, refl, sym, ap, _∙_, subst}
 use mathlib.Core.Bool.{Bool, true, false}
 use mathlib.Core.Logic.{_⊎_, inl, inr}
 use Prim.Native.Nat.{ℕ, _+_, _*_, _-_, _≤_, _<_}
-use native.Mathlib.Nat.{le-refl}
+use native.Mathlib.Nat.{le-refl, add-assoc}
 use native.Mathlib.Omega.{arith}
 use lib.Dec.{T, ltb}
 use lib.IntN.{ℤ, pos, negsuc, natAbs, subℕ}
@@ -16,9 +16,20 @@ use Rattle.exact.proofs.Order.{below-or-not}
 use Rattle.exact.proofs.Difference.{sub-pos, sub-neg}
 use Rattle.systems.specs.declared.Matrix.{Matrix}
 use Rattle.systems.specs.declared.Range.{Range}
+use Rattle.matrix.specs.declared.Clips.{Clips}
 use Rattle.matrix.specs.declared.Words.{Words}
-use Rattle.matrix.specs.Triples.{redOf, greenOf, blueOf, natural, clipped, beyond, codesAt}
+use Rattle.matrix.specs.Triples.{redOf, greenOf, blueOf, natural, noClips, _plus_, clipped, beyond, codesAt}
 use Rattle.matrix.specs.Inner.{NominalCodes}
+
+-- ---- counts together
+pub none-plus : (a : Clips) → noClips plus a ≡ a
+none-plus a = let e : 0 + a .total ≡ a .total = omega arith in λ i. record { total = e i }
+
+pub plus-none : (a : Clips) → a plus noClips ≡ a
+plus-none a = let e : a .total + 0 ≡ a .total = omega arith in λ i. record { total = e i }
+
+pub plus-assoc : (a b c : Clips) → (a plus b) plus c ≡ a plus (b plus c)
+plus-assoc a b c = λ i. record { total = add-assoc (a .total) (b .total) (c .total) i }
 
 inside : (v : ℤ) (low high : ℕ) → ltZ v (pos low) ≡ false → ltZ (pos high) v ≡ false → (low ≤ natural v) × (natural v ≤ high)
 inside (pos n) low high l h = (ltb-false n low l, ltb-false high n h)
@@ -34,8 +45,8 @@ pub natural-inside : (n : Range) (v : ℤ) → ltZ v (pos (n .low)) ≡ false �
 natural-inside n (pos a) l h = (tt, ltb-false (n .high) a h, clipped-by n (pos a) false false l h)
 natural-inside n (negsuc a) l h = absurd (subst T l tt)
 
-beyond-by : (n : Range) (v : ℤ) (l h : Bool) → ltZ v (pos (n .low)) ≡ l → ltZ (pos (n .high)) v ≡ h → elim l [ true ↦ 1 | false ↦ elim h [ true ↦ 1 | false ↦ 0 ] ] ≡ beyond n v
-beyond-by n v l h p q = sym (λ i. elim (p i) [ true ↦ 1 | false ↦ elim (q i) [ true ↦ 1 | false ↦ 0 ] ])
+beyond-by : (n : Range) (v : ℤ) (l h : Bool) → ltZ v (pos (n .low)) ≡ l → ltZ (pos (n .high)) v ≡ h → record { total = elim l [ true ↦ 1 | false ↦ elim h [ true ↦ 1 | false ↦ 0 ] ] } ≡ beyond n v
+beyond-by n v l h p q = sym (λ i. record { total = elim (p i) [ true ↦ 1 | false ↦ elim (q i) [ true ↦ 1 | false ↦ 0 ] ] })
 
 not-both : (n : Range) (v : ℤ) → n .low ≤ n .high → ltZ v (pos (n .low)) ≡ true → ltZ (pos (n .high)) v ≡ true → ⊥
 not-both n (pos a) o l h = omega (arith, ltb-true a (n .low) l, ltb-true (n .high) a h)
@@ -43,16 +54,16 @@ not-both n (negsuc a) o l h = subst T (sym h) tt
 
 pub counted : (n : Range) (v : ℤ) → n .low ≤ n .high →
     let k = boolByte (ltZ v (pos (n .low))) + boolByte (ltZ (pos (n .high)) v) in
-    (k ≡ beyond n v) × (k ≤ 1)
+    (record { total = k } ≡ beyond n v) × (k ≤ 1)
 counted n v o = go (ltZ v (pos (n .low))) (ltZ (pos (n .high)) v) refl refl
   where
-    go : (l h : Bool) → ltZ v (pos (n .low)) ≡ l → ltZ (pos (n .high)) v ≡ h → (boolByte l + boolByte h ≡ beyond n v) × (boolByte l + boolByte h ≤ 1)
+    go : (l h : Bool) → ltZ v (pos (n .low)) ≡ l → ltZ (pos (n .high)) v ≡ h → (record { total = boolByte l + boolByte h } ≡ beyond n v) × (boolByte l + boolByte h ≤ 1)
     go true true p q = absurd (not-both n v o p q)
     go true false p q = (beyond-by n v true false p q, omega arith)
     go false true p q = (beyond-by n v false true p q, omega arith)
     go false false p q = (beyond-by n v false false p q, omega arith)
 
-beyond-at-most-one : (n : Range) (v : ℤ) → beyond n v ≤ 1
+beyond-at-most-one : (n : Range) (v : ℤ) → beyond n v .total ≤ 1
 beyond-at-most-one n v = by-tests (ltZ v (pos (n .low))) (ltZ (pos (n .high)) v)
   where
     by-tests : (l h : Bool) → elim l [ true ↦ 1 | false ↦ elim h [ true ↦ 1 | false ↦ 0 ] ] ≤ 1
@@ -75,13 +86,13 @@ abbrev pub nominalAt : ℕ → Range
 nominalAt s = record { low = 16 * s; high = 235 * s }
 
 -- of any words at all
-pub clipped-at-most-three : (x : Matrix) (s : ℕ) (w : Words) → codesAt x s w .count ≤ 3
+pub clipped-at-most-three : (x : Matrix) (s : ℕ) (n : Range) (w : Words) → codesAt x s n w .clips .total ≤ 3
 unfolding codesAt
-clipped-at-most-three x s w =
-    let one = beyond-at-most-one (nominalAt s) in
+clipped-at-most-three x s n w =
+    let one = beyond-at-most-one n in
     omega (arith, one (rounded (redOf x s w)), one (rounded (greenOf x s w)), one (rounded (blueOf x s w)))
 
-pub codes-nominal : (x : Matrix) (s : ℕ) (w : Words) → NominalCodes s (codesAt x s w .codes)
+pub codes-nominal : (x : Matrix) (s : ℕ) (w : Words) → NominalCodes s (codesAt x s (nominalAt s) w .codes)
 unfolding codesAt
 codes-nominal x s w =
     let within : (v : ℤ) → (16 * s ≤ clipped (nominalAt s) v) × (clipped (nominalAt s) v ≤ 235 * s) = λ v. clipped-within (nominalAt s) v (omega arith) in
@@ -115,7 +126,7 @@ clipped-nearer n v d l h o = subst (λ (z : ℤ). (clipped n z ≤ d + 1) × (d 
         let a = o .up - o .down in
         rw (sub-pos (o .up) (o .down) b) (by-tests a (omega arith) (omega arith) (ltb a (n .low)) (ltb (n .high) a) refl refl)
 
-pub kept-whole : (n : Range) (v : ℤ) (d : ℕ) → n .low ≤ d → d ≤ n .high → v ≡ pos d → (clipped n v ≡ d) × (beyond n v ≡ 0)
+pub kept-whole : (n : Range) (v : ℤ) (d : ℕ) → n .low ≤ d → d ≤ n .high → v ≡ pos d → (clipped n v ≡ d) × (beyond n v ≡ noClips)
 kept-whole n v d l h e =
     let low : ltZ v (pos (n .low)) ≡ false = ap (λ (z : ℤ). ltZ z (pos (n .low))) e ∙ le-ltb d (n .low) l in
     let high : ltZ (pos (n .high)) v ≡ false = ap (λ (z : ℤ). ltZ (pos (n .high)) z) e ∙ le-ltb (n .high) d h in

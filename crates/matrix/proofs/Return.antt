@@ -12,13 +12,14 @@ use Rattle.exact.proofs.Nearest.{Rounds}
 use Rattle.systems.specs.declared.Codes.{Codes}
 use Rattle.systems.specs.declared.Matrix.{Matrix}
 use Rattle.systems.specs.declared.Matrix.the-variants.{Bt709, Bt2020}
+use Rattle.systems.specs.declared.Range.{Range}
 use Rattle.systems.specs.Systems.{kr, kb}
 use Rattle.matrix.specs.declared.Words.{Words}
-use Rattle.matrix.specs.Triples.{weighted, natural, primary, signed, redOf, greenOf, blueOf, wordsAt, codesAt}
+use Rattle.matrix.specs.Triples.{weighted, natural, primary, signed, greenOf, wordsAt, noClips, _plus_, clipped, codesAt}
 use Rattle.matrix.specs.Inner.{NominalCodes}
 use Rattle.matrix.proofs.Fractions.{luma-rounds, difference-rounds, primary-rounds, green-rounds}
 use Rattle.matrix.proofs.Nominal.{divisors, Word, WordsOf, words-of, words-are}
-use Rattle.matrix.proofs.Clipping.{nominalAt, OffByOne, clipped-nearer, kept-whole}
+use Rattle.matrix.proofs.Clipping.{OffByOne, clipped-nearer, kept-whole}
 
 -- ---- within one
 off : {p n d : ℕ} {v : ℤ} (k : ℕ) (r : Rounds p n d v) → r .up ≤ k + 1 + r .down → k + r .down ≤ r .up + 1 → OffByOne v k
@@ -44,18 +45,21 @@ pub record CodesWithinOne (c d : Codes) : Type 0 where
   pub g : (c .g ≤ d .g + 1) × (d .g ≤ c .g + 1)
   pub b : (c .b ≤ d .b + 1) × (d .b ≤ c .b + 1)
 
-codes-near : (x : Matrix) (s : ℕ) (c : Codes) → NominalCodes s c → (v : WordsOf x s c) → CodesWithinOne (codesAt x s (words x s c v) .codes) c
-unfolding codesAt
-codes-near x s c n v = record {
-  r = clipped-nearer (nominalAt s) _ (c .r) (n .r-low) (n .r-high) (primary-near s (kr x) (c .r) (weighted x c) (v .y) (v .cr));
-  g = clipped-nearer (nominalAt s) _ (c .g) (n .g-low) (n .g-high) (green-near x s c v);
-  b = clipped-nearer (nominalAt s) _ (c .b) (n .b-low) (n .b-high) (primary-near s (kb x) (c .b) (weighted x c) (v .y) (v .cb));
-}
+-- clipped to a range that holds the nominal codes
+module _ (x : Matrix) (s : ℕ) (n : Range) (c : Codes) (low : n .low ≤ 16 * s) (high : 235 * s ≤ n .high) (nominal : NominalCodes s c) where
+  nearer : (v : ℤ) (d : ℕ) → 16 * s ≤ d → d ≤ 235 * s → OffByOne v d → (clipped n v ≤ d + 1) × (d ≤ clipped n v + 1)
+  nearer v d l h = clipped-nearer n v d (omega arith) (omega arith)
 
-pub codes-return-within-one : (x : Matrix) (s : ℕ) (c : Codes) → NominalCodes s c → CodesWithinOne (codesAt x s (wordsAt x s c) .codes) c
-codes-return-within-one x s c n =
-    let v = words-of x s c n in
-    rw (words-are x s c v) (codes-near x s c n v)
+  codes-near : (v : WordsOf x s c) → CodesWithinOne (codesAt x s n (words x s c v) .codes) c
+  unfolding codesAt
+  codes-near v = record {
+    r = nearer _ (c .r) (nominal .r-low) (nominal .r-high) (primary-near s (kr x) (c .r) (weighted x c) (v .y) (v .cr));
+    g = nearer _ (c .g) (nominal .g-low) (nominal .g-high) (green-near x s c v);
+    b = nearer _ (c .b) (nominal .b-low) (nominal .b-high) (primary-near s (kb x) (c .b) (weighted x c) (v .y) (v .cb));
+  }
+
+  pub codes-return-within-one : CodesWithinOne (codesAt x s n (wordsAt x s c) .codes) c
+  codes-return-within-one = let v = words-of x s c nominal in rw (words-are x s c v) (codes-near v)
 
 -- ---- greys
 abbrev pub grey : ℕ → Codes
@@ -86,15 +90,15 @@ grey-words x s d =
     let cr = whole-stays (128 * s) (difference-rounds x (128 * s) (kr x) d (grey d) (divisors x .cr)) (omega arith) in
     λ i. record { y = natural (y i); cb = natural (cb i); cr = natural (cr i) }
 
-grey-codes : (x : Matrix) (s d : ℕ) → 16 * s ≤ d → d ≤ 235 * s → codesAt x s (greyWords s d) ≡ record { codes = grey d; count = 0 }
+grey-codes : (x : Matrix) (s : ℕ) (n : Range) (d : ℕ) → n .low ≤ d → d ≤ n .high → codesAt x s n (greyWords s d) ≡ record { codes = grey d; clips = noClips }
 unfolding codesAt
-grey-codes x s d l h =
-    let r = kept-whole (nominalAt s) _ d l h (whole-stays d (primary-rounds d (128 * s) s (kr x)) (omega arith)) in
-    let g = kept-whole (nominalAt s) _ d l h (whole-stays d (green-rounds x s (greyWords s d) (divisors x .green)) (omega arith)) in
-    let b = kept-whole (nominalAt s) _ d l h (whole-stays d (primary-rounds d (128 * s) s (kb x)) (omega arith)) in
-    λ i. record { codes = record { r = r .0 i; g = g .0 i; b = b .0 i }; count = r .1 i + g .1 i + b .1 i }
+grey-codes x s n d l h =
+    let r = kept-whole n _ d l h (whole-stays d (primary-rounds d (128 * s) s (kr x)) (omega arith)) in
+    let g = kept-whole n _ d l h (whole-stays d (green-rounds x s (greyWords s d) (divisors x .green)) (omega arith)) in
+    let b = kept-whole n _ d l h (whole-stays d (primary-rounds d (128 * s) s (kb x)) (omega arith)) in
+    λ i. record { codes = record { r = r .0 i; g = g .0 i; b = b .0 i }; clips = r .1 i plus g .1 i plus b .1 i }
 
--- a grey's Y' is its code and its colour differences are zero; it comes back as it was, unclipped
-pub grey-returns : (x : Matrix) (s d : ℕ) → 16 * s ≤ d → d ≤ 235 * s
-    → (wordsAt x s (grey d) ≡ greyWords s d) × (codesAt x s (wordsAt x s (grey d)) ≡ record { codes = grey d; count = 0 })
-grey-returns x s d l h = (grey-words x s d, ap (codesAt x s) (grey-words x s d) ∙ grey-codes x s d l h)
+-- a grey's Y' is its code and its colour differences are zero; it comes back as it was, unclipped, where the range holds it
+pub grey-returns : (x : Matrix) (s : ℕ) (n : Range) (d : ℕ) → n .low ≤ d → d ≤ n .high
+    → (wordsAt x s (grey d) ≡ greyWords s d) × (codesAt x s n (wordsAt x s (grey d)) ≡ record { codes = grey d; clips = noClips })
+grey-returns x s n d l h = (grey-words x s d, ap (codesAt x s n) (grey-words x s d) ∙ grey-codes x s n d l h)

@@ -13,7 +13,9 @@ use Rattle.systems.specs.declared.System.{System}
 use Rattle.systems.specs.Systems.{matrix, scale, kr, kg, kb, nominal, nominalDifference, within, allWithin, named}
 use Rattle.systems.specs.Refusals.{refusal}
 use Rattle.matrix.specs.declared.Words.{Words}
+use Rattle.matrix.specs.declared.WordRanges.{WordRanges}
 use Rattle.matrix.specs.declared.Unlimited.{Unlimited}
+use Rattle.matrix.specs.declared.Clips.{Clips}
 use Rattle.matrix.specs.declared.Clipped.{Clipped}
 use Rattle.matrix.specs.declared.Encoded.{Encoded}
 use Rattle.matrix.specs.declared.Encoded.the-variants as encoded
@@ -80,32 +82,44 @@ greenOf x s w = record {
   bottom = 224 * 10000 * kg x;
 }
 
+-- no clips, and two counts of clips together
+abbrev pub noClips : Clips
+noClips = record { total = 0 }
+
+infixl 6 _plus_
+abbrev pub _plus_ : Clips → Clips → Clips
+a plus b = record { total = a .total + b .total }
+
 -- a component brought to the nearer end of a range where it is beyond it, and whether it was
 abbrev pub clipped : Range → ℤ → ℕ
 clipped r v = elim (ltZ v (pos (r .low))) [ true ↦ r .low | false ↦ elim (ltZ (pos (r .high)) v) [ true ↦ r .high | false ↦ natural v ] ]
 
-abbrev pub beyond : Range → ℤ → ℕ
-beyond r v = elim (ltZ v (pos (r .low))) [ true ↦ 1 | false ↦ elim (ltZ (pos (r .high)) v) [ true ↦ 1 | false ↦ 0 ] ]
+abbrev pub beyond : Range → ℤ → Clips
+beyond r v = record { total = elim (ltZ v (pos (r .low))) [ true ↦ 1 | false ↦ elim (ltZ (pos (r .high)) v) [ true ↦ 1 | false ↦ 0 ] ] }
 
--- the codes of a triple of words, clipped to 16s to 235s, and the count of those that were
-unfoldable pub codesAt : Matrix → ℕ → Words → Clipped
-codesAt x s w =
-    let n : Range = record { low = 16 * s; high = 235 * s } in
+-- the codes of a triple of words, clipped to the range n, and their clips
+unfoldable pub codesAt : Matrix → ℕ → Range → Words → Clipped
+codesAt x s n w =
     let r = rounded (redOf x s w) in
     let g = rounded (greenOf x s w) in
     let b = rounded (blueOf x s w) in
-    record { codes = record { r = clipped n r; g = clipped n g; b = clipped n b }; count = beyond n r + beyond n g + beyond n b }
+    record { codes = record { r = clipped n r; g = clipped n g; b = clipped n b }; clips = beyond n r plus beyond n g plus beyond n b }
 
 -- the words of a code triple in the system that n names, or refusal 1 or 6
 abbrev pub wordsOfCodes : ℕ → Codes → Outcome Words
 wordsOfCodes n c = named n and-then λ (y : System). require (allWithin (nominal y) c) 6 (accepted (wordsAt (matrix y) (scale y) c))
 
-abbrev pub wordsWithin : System → Words → Bool
-wordsWithin y w = within (nominal y) (w .y) && within (nominalDifference y) (w .cb) && within (nominalDifference y) (w .cr)
+-- nominal Y', Cb and Cr
+abbrev pub nominalWords : System → WordRanges
+nominalWords y = record { luma = nominal y; difference = nominalDifference y }
+
+-- a sample's words are in their ranges
+abbrev pub wordsWithin : WordRanges → Words → Bool
+wordsWithin r w = within (r .luma) (w .y) && within (r .difference) (w .cb) && within (r .difference) (w .cr)
 
 -- the codes of a word triple in the system that n names, or refusal 1 or 6
 abbrev pub codesOfWords : ℕ → Words → Outcome Clipped
-codesOfWords n w = named n and-then λ (y : System). require (wordsWithin y w) 6 (accepted (codesAt (matrix y) (scale y) w))
+codesOfWords n w = named n and-then λ (y : System). require (wordsWithin (nominalWords y) w) 6 (accepted (codesAt (matrix y) (scale y) (nominal y) w))
 
 -- what the answers say
 abbrev pub wordsOutcome : Encoded → Outcome Words

@@ -6,13 +6,13 @@ use systems::Range;
 use systems::Refusal;
 use systems::System;
 ghost use mathlib.Core.Path.{_≡_};
-ghost use Prim.Native.Nat.{_*_, _^_, _≤_};
+ghost use Prim.Native.Nat.{_+_, _*_, _^_, _≤_, _<_};
 ghost use lib.IntN.{pos, natAbs, _-ℤ_};
 ghost use lib.Signed.{_<ℤ_};
 ghost use Rattle.exact.specs.Signed.{rounded};
 ghost use Rattle.systems.specs.declared.Matrix.the-variants.{Bt709, Bt2020};
 ghost use Rattle.systems.specs.Systems.{matrix, scale};
-ghost use Rattle.matrix.specs.Triples.{encodedAt, worded, wordsAt, codesAt, wordsOfCodes, codesOfWords, wordsOutcome, codesOutcome, wordsWithin, clipped, beyond};
+ghost use Rattle.matrix.specs.Triples.{encodedAt, worded, wordsAt, codesAt, wordsOfCodes, codesOfWords, wordsOutcome, codesOutcome, nominalWords, wordsWithin, _plus_, clipped, beyond};
 ghost use Rattle.matrix.specs.Inner.{triple, NominalCodes, TwelveBitCodes, TwelveBitWords, WordSized, Small, dotted, encodingRows, colourDifference, decodingRows, unclippedAt, fixed, fromFixed, InOrder};
 
 // Y', Cb and Cr words of a sample.
@@ -21,6 +21,12 @@ pub struct Words {
     pub y: u16,
     pub cb: u16,
     pub cr: u16,
+}
+
+// The ranges that a sample's words are in.
+pub struct WordRanges {
+    pub luma: Range,
+    pub difference: Range,
 }
 
 // Y', Cb and Cr of a sample's codes before they are words.
@@ -37,10 +43,15 @@ pub struct Unclipped {
     pub b: i64,
 }
 
-// The codes of a sample's words, and how many of the three were brought to an end of the nominal range.
+// How many components were brought to an end of the range that they were beyond.
+pub struct Clips {
+    pub total: u32,
+}
+
+// The codes of a sample's words, and their clips.
 pub struct Clipped {
     pub codes: Codes,
-    pub count: u32,
+    pub clips: Clips,
 }
 
 pub enum Encoded {
@@ -100,8 +111,8 @@ pub fn codes_of_words(system: u32, words: Words) -> Decoded
 {
     match System::from_number(system) {
         Named::Known(y) => {
-            if words.nominal_in(y) {
-                Decoded::Codes(codes_in(y, words))
+            if words.all_in(WordRanges::nominal(y)) {
+                Decoded::Codes(codes_in(y, y.nominal(), words))
             } else {
                 Decoded::Refused(Refusal::Code)
             }
@@ -110,13 +121,36 @@ pub fn codes_of_words(system: u32, words: Words) -> Decoded
     }
 }
 
-impl Words {
-    fn nominal_in(self, y: System) -> bool
-        ensures { λ r. ⌜ r ≡ wordsWithin y self ⌝ }
+impl WordRanges {
+    // Nominal Y', Cb and Cr.
+    pub fn nominal(y: System) -> WordRanges
+        ensures { λ r. ⌜ r ≡ nominalWords y ⌝ }
     {
-        let luma = y.nominal();
-        let difference = y.nominal_difference();
+        WordRanges {
+            luma: y.nominal(),
+            difference: y.nominal_difference(),
+        }
+    }
+}
+
+impl Words {
+    fn all_in(self, ranges: WordRanges) -> bool
+        ensures { λ r. ⌜ r ≡ wordsWithin ranges self ⌝ }
+    {
+        let luma = ranges.luma;
+        let difference = ranges.difference;
         luma.holds(self.y) & difference.holds(self.cb) & difference.holds(self.cr)
+    }
+}
+
+impl Clips {
+    fn plus(self, other: Clips) -> Clips
+        requires { ⌜ self .total + other .total < 2 ^ 32 ⌝ }
+        ensures { λ r. ⌜ r ≡ self plus other ⌝ }
+    {
+        Clips {
+            total: self.total + other.total,
+        }
     }
 }
 
@@ -198,12 +232,12 @@ fn colour_difference(above: i64, weight: i64, middle: u16) -> i64
     sum >> FRACTION_BITS
 }
 
-fn codes_in(y: System, w: Words) -> Clipped
-    requires { ⌜ TwelveBitWords w ⌝ }
-    ensures { λ r. ⌜ r ≡ codesAt (matrix y) (scale y) w ⌝ }
+// The codes of one triple, clipped to a range.
+fn codes_in(y: System, n: Range, w: Words) -> Clipped
+    requires { ⌜ TwelveBitWords w × InOrder n ⌝ }
+    ensures { λ r. ⌜ r ≡ codesAt (matrix y) (scale y) n w ⌝ }
 {
     let v = unclipped_in(y, w);
-    let n = y.nominal();
     let codes = Codes {
         r: clip(n, v.r),
         g: clip(n, v.g),
@@ -211,7 +245,7 @@ fn codes_in(y: System, w: Words) -> Clipped
     };
     Clipped {
         codes,
-        count: beyond(n, v.r) + beyond(n, v.g) + beyond(n, v.b),
+        clips: beyond(n, v.r).plus(beyond(n, v.g)).plus(beyond(n, v.b)),
     }
 }
 
@@ -305,10 +339,12 @@ fn clip(n: Range, v: i64) -> u16
     v as u16
 }
 
-// 1 where a component is beyond the range.
-fn beyond(n: Range, v: i64) -> u32
+// The clip of a component that is beyond the range.
+fn beyond(n: Range, v: i64) -> Clips
     requires { ⌜ InOrder n ⌝ }
-    ensures { λ r. ⌜ (r ≡ beyond n v) × (r ≤ 1) ⌝ }
+    ensures { λ r. ⌜ (r ≡ beyond n v) × (r .total ≤ 1) ⌝ }
 {
-    (v < n.low as i64) as u32 + ((n.high as i64) < v) as u32
+    Clips {
+        total: (v < n.low as i64) as u32 + ((n.high as i64) < v) as u32,
+    }
 }

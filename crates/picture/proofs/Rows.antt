@@ -20,13 +20,13 @@ use Rattle.curve.specs.Curve.{code}
 use Rattle.matrix.specs.declared.Clipped.{Clipped}
 use Rattle.matrix.specs.declared.Words.{Words}
 use Rattle.matrix.specs.Inner.{NominalCodes, NominalWords}
-use Rattle.matrix.specs.Triples.{wordsAt, codesAt, wordsWithin}
+use Rattle.matrix.specs.Triples.{wordsAt, codesAt, nominalWords, wordsWithin}
 use Rattle.matrix.proofs.Clipping.{codes-nominal}
 use Rattle.matrix.proofs.Nominal.{words-nominal, word-near, no-timing-code}
 use Rattle.matrix.proofs.Return.{codes-return-within-one}
 use Rattle.block.specs.declared.Header.{Header}
 use Rattle.block.specs.Block.{sampleOf}
-use Rattle.block.specs.Read.{sampleAt, decoded, codesTo, clippedTo, headerOf, sliceAfter}
+use Rattle.block.specs.Read.{sampleAt, decoded, codesTo, clipsTo, headerOf, sliceAfter}
 use Rattle.block.proofs.Decoding.{length-codes}
 use Rattle.block.proofs.ReadBack.{NominalRow, block-samples, block-reads-back, block-decodes-back}
 use Rattle.row.specs.Row.{sampleCodes, sampleWords, tabulate, rowBlock}
@@ -90,7 +90,7 @@ codes-pass : (y : System) (c : Codes) → NominalCodes (scale y) c → allWithin
 codes-pass y c n =
     simp (le-leb _ _ (n .r-low), le-leb _ _ (n .r-high), le-leb _ _ (n .g-low), le-leb _ _ (n .g-high), le-leb _ _ (n .b-low), le-leb _ _ (n .b-high))
 
-words-pass : (y : System) (v : Words) → NominalWords (scale y) v → wordsWithin y v ≡ true
+words-pass : (y : System) (v : Words) → NominalWords (scale y) v → wordsWithin (nominalWords y) v ≡ true
 words-pass y v n =
     simp (le-leb _ _ (n .y-low), le-leb _ _ (n .y-high), le-leb _ _ (n .cb-low), le-leb _ _ (n .cb-high), le-leb _ _ (n .cr-low), le-leb _ _ (n .cr-high))
 
@@ -115,7 +115,7 @@ module _ (y : System) (lights : List ℕ) (i : ℕ) where
   sample-nominal : NominalCodes (scale y) c
   sample-nominal = lights-nominal y _ _ _ refl
 
-  sample-passes : wordsWithin y (sampleWords y lights i) ≡ true
+  sample-passes : wordsWithin (nominalWords y) (sampleWords y lights i) ≡ true
   unfolding sampleWords
   sample-passes = words-pass y _ (words-nominal (matrix y) (scale y) c sample-nominal)
 
@@ -130,10 +130,10 @@ module _ (y : System) (lights : List ℕ) (i : ℕ) where
         cr-word = record { near = near .2; no-timing = free .2 };
       }
 
-  sample-returns : Returns y lights i (codesAt (matrix y) (scale y) (sampleWords y lights i) .codes)
+  sample-returns : Returns y lights i (codesAt (matrix y) (scale y) (nominal y) (sampleWords y lights i) .codes)
   unfolding sampleWords
   sample-returns =
-      let back = codes-return-within-one (matrix y) (scale y) c sample-nominal in
+      let back = codes-return-within-one (matrix y) (scale y) (nominal y) c (omega arith) (omega arith) sample-nominal in
       let n = codes-nominal (matrix y) (scale y) (wordsAt (matrix y) (scale y) c) in
       ((back .r, (n .r-low, n .r-high)), (back .g, (n .g-low, n .g-high)), (back .b, (n .b-low, n .b-high)))
 
@@ -163,7 +163,7 @@ module _ (y : System) (r w : ℕ) (lights : List ℕ) (some : 1 ≤ w) (most : w
     luma-count = length-tabulate _ w;
     cb-count = length-tabulate _ w;
     cr-count = length-tabulate _ w;
-    nominal = λ i h. ap (wordsWithin y) (samples i h) ∙ sample-passes y lights i;
+    nominal = λ i h. ap (wordsWithin (nominalWords y)) (samples i h) ∙ sample-passes y lights i;
   }
 
   words : (i : ℕ) → i < w → StoredSample y (codesOf y lights i) (sampleAt (rowBlock y r w lights) w i)
@@ -173,10 +173,10 @@ module _ (y : System) (r w : ℕ) (lights : List ℕ) (some : 1 ≤ w) (most : w
       subst (StoredSample y (codesOf y lights i)) (sym same) (sample-stored y lights i)
 
   abbrev row : ℕ → Clipped
-  row = decoded (matrix y) (scale y) (sampleOf ys cbs crs)
+  row = decoded y (sampleOf ys cbs crs)
 
   header : Header
-  header = record { system = y; row = r; samples = w; clipped = clippedTo row w }
+  header = record { system = y; row = r; samples = w; clips = clipsTo row w }
 
   answer : (room : ℕ) → 3 * w ≤ room → headerOf (rowBlock y r w lights) room ≡ accepted header
   unfolding rowBlock header
@@ -189,7 +189,7 @@ module _ (y : System) (r w : ℕ) (lights : List ℕ) (some : 1 ≤ w) (most : w
   codes : Lights lights → (slice : List ℕ) (j : ℕ) → j < 3 * w → ReadCode y (getD lights j 0) (getD (codesTo row w ++ drop (3 * w) slice) j 0)
   codes lit slice j h =
       let back : (i : ℕ) → i < w → Returns y lights i (row i .codes) =
-      λ i h. subst (λ (v : Words). Returns y lights i (codesAt (matrix y) (scale y) v .codes)) (sym (samples i h)) (sample-returns y lights i) in
+      λ i h. subst (λ (v : Words). Returns y lights i (codesAt (matrix y) (scale y) (nominal y) v .codes)) (sym (samples i h)) (sample-returns y lights i) in
       let good : Good y lights j (getD (codesTo row w) j 0) = each-code row (Good y lights) w back j h in
       let same : getD (codesTo row w ++ drop (3 * w) slice) j 0 ≡ getD (codesTo row w) j 0 =
       List·getD-append (codesTo row w) (drop (3 * w) slice) 0 j (omega (arith, length-codes row w)) in

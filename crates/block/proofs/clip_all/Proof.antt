@@ -50,6 +50,9 @@ loop-again c =
     let h : l .i < length (now (s .args .codes)) = omega arith in
     (omega arith, one-more (s .args .range) (now (s .args .codes)) (l .i) (l .bad) (l .codes) (l .inv .1) h _ _ (c .before .beyond .ensures) (c .clip .ensures))
 
+cast-t12 : tie.Need-cast-t12 Inv-loop μ-loop
+cast-t12 c = record { fits = omega (arith, c .before .loop .inv .1 .few) }
+
 same-length : tie.Need-same-length Inv-loop μ-loop
 same-length c = so-far-long _ _ _ _ _ (c .before .loop .inv .1)
 
@@ -76,5 +79,6 @@ clip-all-spec =
     add-i
     loop-less
     loop-again
+    cast-t12
     same-length
     returns)

@@ -6,8 +6,9 @@ use lib.ListN.{length, take, drop}
 use denote.Ref.{now}
 use Rattle.systems.specs.declared.Matrix.{Matrix}
 use Rattle.systems.specs.declared.Range.{Range}
-use Rattle.systems.specs.Systems.{matrix, scale}
+use Rattle.systems.specs.Systems.{matrix, scale, nominal}
 use Rattle.systems.proofs.Scales.{scale-range}
+use Rattle.block.specs.declared.Judged.{Judged}
 use Rattle.block.specs.Read.{sampleAt}
 use Rattle.block.specs.Inner.{biasedRow, triplesTo, clippedAll, beyondAll}
 use Rattle.block.proofs.Decoding.{triples-kept}
@@ -19,44 +20,48 @@ use Rattle.block.proofs.decode.Tie as tie
 -- the slice before it is clipped
 module _ (c : tie.After-put-unclipped) where
   abbrev start : tie.Start
-  start = c .before .before .before .before .before
+  start = c .before .before .before .before .before .before
+
+  abbrev judged : Judged
+  judged = start .args .b
 
   abbrev unclipped : List ℕ
   unclipped = c .put-unclipped .last .1 .1 .1 .0
 
   abbrev rgb : Matrix → List ℕ
-  rgb x = triplesTo (biasedRow x (scale (start .args .system)) (sampleAt (now (start .args .bytes)) (start .args .samples))) (start .args .samples) ++ drop (3 * start .args .samples) (now (start .args .codes))
+  rgb x = triplesTo (biasedRow x (scale (judged .system)) (sampleAt (now (start .args .bytes)) (judged .samples))) (judged .samples) ++ drop (3 * judged .samples) (now (start .args .codes))
 
-  unclipped-is : unclipped ≡ rgb (matrix (start .args .system))
+  unclipped-is : unclipped ≡ rgb (matrix (judged .system))
   unclipped-is = c .put-unclipped .ensures ∙ (λ j. rgb (c .before .before .matrix .ensures j))
 
   unclipped-long : length unclipped ≡ length (now (start .args .codes))
-  unclipped-long = ap length unclipped-is ∙ triples-kept _ (start .args .samples) (now (start .args .codes)) (start .pre .fits)
+  unclipped-long = ap length unclipped-is ∙ triples-kept _ (judged .samples) (now (start .args .codes)) (start .pre .fits)
 
 put-unclipped-requires : tie.Need-put-unclipped-requires
-put-unclipped-requires c κs = c .before .before .before .before .pre
+put-unclipped-requires c κs = c .before .before .before .before .before .pre
 
 clip-all-requires : tie.Need-clip-all-requires
 clip-all-requires c κs =
     let r = c .before .before .before .before in
     let p = start r .pre in
-    (rw (c .before .nominal .ensures) record { in-order = omega arith; small = omega (arith, scale-range (start r .args .system) .1) }, omega (arith, p .fits, unclipped-long r), omega (arith, p .narrow))
+    (rw (c .before .nominal .ensures) record { in-order = omega arith; small = omega (arith, scale-range (judged r .system) .1) }, omega (arith, p .fits, unclipped-long r), omega (arith, p .narrow))
 
 returns : tie.Need-returns
 returns c =
     let r = c .before .before .before .before .before .before .before in
     let s = start r in
-    let n = s .args .samples in
-    let y = s .args .system in
-    let done = clipped-row (matrix y) (scale y) (sampleAt (now (s .args .bytes)) n) (scale-range y .1) n (now (s .args .codes)) (unclipped r) (s .pre .nominal) (unclipped-is r) in
+    let b = judged r in
+    let n = b .samples in
+    let done = clipped-row (matrix (b .system)) (scale (b .system)) (nominal (b .system)) (sampleAt (now (s .args .bytes)) n) (scale-range (b .system) .1) n (now (s .args .codes)) (unclipped r) (s .pre .words) (unclipped-is r) in
     let range = c .before .before .before .before .nominal .ensures in
-    let told = c .before .before .clip-all .ensures in (
-      told .0 ∙ ap (λ (t : Range). beyondAll t (take (3 * n) (unclipped r))) range ∙ done .0,
+    let told = c .before .before .clip-all .ensures in
+    let count = told .0 ∙ ap (λ (t : Range). beyondAll t (take (3 * n) (unclipped r))) range ∙ done .0 in (
+      λ j. record { system = b .system; row = b .row; samples = n; clips = count j },
       told .1 ∙ ap (λ (t : Range). clippedAll t (take (3 * n) (unclipped r)) ++ drop (3 * n) (unclipped r)) range ∙ done .1,
     )
 
 pub decode-spec : {M : Type 1} → statement M
 decode-spec =
     tie.close
-    (tie.spec (λ c κs. search needs) put-unclipped-requires (λ c κs. search needs) (λ c. search needs) clip-all-requires (λ c. search needs)
+    (tie.spec (λ c. search needs) (λ c κs. search needs) put-unclipped-requires (λ c κs. search needs) (λ c. search needs) clip-all-requires
     (λ c. search needs) returns)

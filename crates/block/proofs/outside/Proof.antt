@@ -4,7 +4,7 @@ use native.Mathlib.Omega.{arith}
 use lib.Dec.{eqb}
 use denote.Ref.{now}
 use Rattle.block.specs.Inner.{inRange}
-use Rattle.block.proofs.Nominal.{misses-small, range-more}
+use Rattle.block.proofs.Ranges.{misses-small, range-more}
 use Rattle.block.proofs.outside.Statement.{statement}
 use Rattle.block.proofs.outside.Tie as tie
 

@@ -8,7 +8,6 @@ use Rattle.systems.specs.declared.Matrix.{Matrix}
 use Rattle.systems.specs.Systems.{scale}
 use Rattle.systems.proofs.Scales.{scale-range}
 use Rattle.matrix.specs.Inner.{unclippedAt}
-use Rattle.matrix.proofs.Tested.{twelve-bits}
 use Rattle.matrix.proofs.DecodingRows.{unclipped-small}
 use Rattle.block.specs.Read.{sampleAt}
 use Rattle.block.specs.Inner.{biasedTriple, biasedRow}
@@ -34,15 +33,13 @@ words-at-requires c κs = let p = c .before .before .before .before .pre in (p .
 unclipped-by-requires : tie.Need-unclipped-by-requires Inv-loop μ-loop
 unclipped-by-requires c κs =
     let s = c .before .before .before .before .before .before in
-    rw (c .before .words-at .ensures) (twelve-bits _ _ (scale-range (s .args .y) .1) (s .pre .nominal _ (c .before .before .loop-test .taken)))
+    rw (c .before .words-at .ensures) (s .pre .words _ (c .before .before .loop-test .taken))
 
 put-triple-requires : tie.Need-put-triple-requires Inv-loop μ-loop
 put-triple-requires c κs =
     let s = c .before .before .before .before .before .before .before in
     let l = c .before .before .before in
-    let S = scale-range (s .args .y) .1 in
-    let n = twelve-bits _ _ S (s .pre .nominal _ (l .loop-test .taken)) in
-    let small = unclipped-small _ _ S n (s .args .x) in
+    let small = unclipped-small _ _ (scale-range (s .args .y) .1) (s .pre .words _ (l .loop-test .taken)) (s .args .x) in
     let room = so-far-long _ _ _ _ _ (s .pre .fits) (l .before .loop .inv) in
     (omega arith, omega arith, rw (c .unclipped-by .ensures, c .before .before .words-at .ensures) record { r = small .0; g = small .1; b = small .2 })
 

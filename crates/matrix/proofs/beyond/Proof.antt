@@ -22,11 +22,11 @@ module _ (c : tie.After-struct-known2) where
   high-read : toZ w64 (s .args .n .high) ≡ pos (s .args .n .high)
   high-read = toZ-pos w64 (s .args .n .high) (omega (arith, c .struct-known2 .given))
 
-add-result : tie.Need-add-result
-add-result c = rw (read c, low-read c, high-read c) record { fits = omega (arith, counted (s c .args .n) (s c .args .v) (s c .pre) .1) }
+add-t9 : tie.Need-add-t9
+add-t9 c = rw (read c, low-read c, high-read c) record { fits = omega (arith, counted (s c .args .n) (s c .args .v) (s c .pre) .1) }
 
 returns : tie.Need-returns
 returns c = rw (read c, low-read c, high-read c) (counted (s c .args .n) (s c .args .v) (s c .pre))
 
 pub beyond-spec : {M : Type 1} → statement M
-beyond-spec = tie.close (tie.spec (λ c. search needs) (λ c. search needs) (λ c. search needs) (λ c. search needs) add-result returns)
+beyond-spec = tie.close (tie.spec (λ c. search needs) (λ c. search needs) (λ c. search needs) (λ c. search needs) add-t9 returns)

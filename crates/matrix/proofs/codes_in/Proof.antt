@@ -15,29 +15,28 @@ use Rattle.matrix.proofs.codes_in.Tie as tie
 components-read : (c : tie.After-unclipped-in) → let v = c .unclipped-in .result in (toZ w64 (ofZ w64 (v .r)) ≡ v .r) × (toZ w64 (ofZ w64 (v .g)) ≡ v .g) × (toZ w64 (ofZ w64 (v .b)) ≡ v .b)
 components-read c =
     let s = c .before in
-    let small = unclipped-small (scale (s .args .y)) (s .args .w) (scale-range (s .args .y) .1) (s .pre) (matrix (s .args .y)) in
+    let small = unclipped-small (scale (s .args .y)) (s .args .w) (scale-range (s .args .y) .1) (s .pre .0) (matrix (s .args .y)) in
     rw (c .unclipped-in .ensures) (reads-back _ (omega (arith, small .0)), reads-back _ (omega (arith, small .1)), reads-back _ (omega (arith, small .2)))
 
-beyond-requires : tie.Need-beyond-requires
-beyond-requires c κs = rw (c .before .before .before .before .before .before .before .nominal .ensures) (omega arith)
+plus-requires : tie.Need-plus-requires
+plus-requires c κs = omega arith
 
-beyond-requires-2 : tie.Need-beyond-requires-2
-beyond-requires-2 c κs = rw (c .before .before .before .before .before .before .before .before .before .nominal .ensures) (omega arith)
-
-beyond-requires-3 : tie.Need-beyond-requires-3
-beyond-requires-3 c κs = rw (c .before .before .before .before .before .before .before .before .before .before .before .nominal .ensures) (omega arith)
+plus-requires-2 : tie.Need-plus-requires-2
+plus-requires-2 c κs = rw (c .before .before .plus .ensures) (omega arith)
 
 returns : tie.Need-returns
 unfolding codesAt unclippedAt
 returns c =
-    let b = c .before .before .before .before in
-    let k = b .before .before in
-    let n = k .before .before .before .before .before .before in
-    let v = components-read (n .before) in
-    rw (k .before .before .before .before .clip .ensures, k .before .before .clip2 .ensures, k .clip3 .ensures, b .beyond .ensures .0, c .before .before .beyond2 .ensures .0, c .beyond3 .ensures .0, n .nominal .ensures, v .0, v .1, v .2, n .before .unclipped-in .ensures)
+    let b = c .before in
+    let g = b .before .before .before in
+    let r = g .before .before in
+    let k = r .before .before in
+    let v = k .before .before .before .before .before .before in
+    let read = components-read v in
+    rw (c .plus2 .ensures, b .before .before .plus .ensures, b .beyond3 .ensures .0, g .beyond2 .ensures .0, r .beyond .ensures .0, k .before .before .before .before .clip .ensures, k .before .before .clip2 .ensures, k .clip3 .ensures, read .0, read .1, read .2, v .unclipped-in .ensures)
 
 pub codes-in-spec : {M : Type 1} → statement M
 codes-in-spec =
     tie.close
-    (tie.spec (λ c κs. search needs) (λ c κs. search needs) (λ c κs. search needs) (λ c κs. search needs) (λ c κs. search needs) beyond-requires
-    beyond-requires-2 (λ c. search needs) beyond-requires-3 (λ c. search needs) returns)
+    (tie.spec (λ c κs. search needs) (λ c κs. search needs) (λ c κs. search needs) (λ c κs. search needs) (λ c κs. search needs)
+    (λ c κs. search needs) plus-requires (λ c κs. search needs) plus-requires-2 returns)

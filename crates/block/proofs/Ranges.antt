@@ -1,4 +1,4 @@
--- The nominal words of a block: counted outside their ranges section by section, and required of each sample.
+-- The words of a block in their ranges: counted outside them section by section, and required of each sample.
 -- Assumes nothing.
 use mathlib.Core.Path.{_≡_, refl, sym, ap, _∙_}
 use mathlib.Core.Bool.{Bool, true, false, _&&_, and-true, and-false, false≢true}
@@ -14,11 +14,11 @@ use borrow.Author.Tests.{le-leb, lt-leb, lt-ltb, le-ltb, eqb-true, eqb-false, ne
 use Rattle.exact.proofs.Boolean.{bit-small}
 use Rattle.exact.proofs.Order.{below-or-not}
 use Rattle.systems.specs.declared.Range.{Range}
-use Rattle.systems.specs.declared.System.{System}
-use Rattle.systems.specs.Systems.{within, nominal, nominalDifference}
+use Rattle.systems.specs.Systems.{within}
 use Rattle.matrix.specs.declared.Words.{Words}
+use Rattle.matrix.specs.declared.WordRanges.{WordRanges}
 use Rattle.matrix.specs.Triples.{wordsWithin}
-use Rattle.block.specs.Read.{fieldAt, sampleAt, nominalTo}
+use Rattle.block.specs.Read.{fieldAt, sampleAt, withinTo}
 use Rattle.block.specs.Inner.{inRange}
 
 -- how often w is outside a range
@@ -73,26 +73,27 @@ by-parts true true false d e f = sym (and-false (d && e))
 by-parts true false c d e f = sym (ap (λ (t : Bool). t && (c && f)) (and-false d))
 by-parts false b c d e f = refl
 
--- the samples are nominal where the sections are
-pub nominal-by-sections : (y : System) (bs : List ℕ) (w n : ℕ) → nominalTo y (sampleAt bs w) n
-    ≡ (inRange (nominal y) bs 5 n && inRange (nominalDifference y) bs (7 + 2 * w) n && inRange (nominalDifference y) bs (9 + 4 * w) n)
-unfolding nominalTo inRange
-nominal-by-sections y bs w zero = refl
-nominal-by-sections y bs w (suc n) = ap (λ (t : Bool). t && wordsWithin y (sampleAt bs w n)) (nominal-by-sections y bs w n)
-    ∙ by-parts (inRange (nominal y) bs 5 n) (inRange (nominalDifference y) bs (7 + 2 * w) n) (inRange (nominalDifference y) bs (9 + 4 * w) n) _ _ _
+-- the samples are in their ranges where the sections are
+pub within-by-sections : (r : WordRanges) (bs : List ℕ) (w n : ℕ) → withinTo r (sampleAt bs w) n
+    ≡ (inRange (r .luma) bs 5 n && inRange (r .difference) bs (7 + 2 * w) n && inRange (r .difference) bs (9 + 4 * w) n)
+unfolding withinTo inRange
+within-by-sections r bs w zero = refl
+within-by-sections r bs w (suc n) = ap (λ (t : Bool). t && wordsWithin r (sampleAt bs w n)) (within-by-sections r bs w n)
+    ∙ by-parts (inRange (r .luma) bs 5 n) (inRange (r .difference) bs (7 + 2 * w) n) (inRange (r .difference) bs (9 + 4 * w) n) _ _ _
 
--- each of the first n samples is nominal
-pub nominal-at : (y : System) (row : ℕ → Words) (n i : ℕ) → nominalTo y row n ≡ true → i < n → wordsWithin y (row i) ≡ true
-unfolding nominalTo
-nominal-at y row zero i e h = absurd (not-suc-le-zero h)
-nominal-at y row (suc n) i e h =
-    let both = each (nominalTo y row n) (wordsWithin y (row n)) e in
-    ⊎-elim
-    (λ (l : i < n). nominal-at y row n i (both .0) l)
-    (λ (l : n ≤ i). let same : i ≡ n = omega arith in ap (λ (j : ℕ). wordsWithin y (row j)) same ∙ both .1)
-    (below-or-not i n)
+module _ (r : WordRanges) (row : ℕ → Words) where
+  -- each of the first n samples is in its ranges
+  pub within-at : (n i : ℕ) → withinTo r row n ≡ true → i < n → wordsWithin r (row i) ≡ true
+  unfolding withinTo
+  within-at zero i e h = absurd (not-suc-le-zero h)
+  within-at (suc n) i e h =
+      let both = each (withinTo r row n) (wordsWithin r (row n)) e in
+      ⊎-elim
+      (λ (l : i < n). within-at n i (both .0) l)
+      (λ (l : n ≤ i). let same : i ≡ n = omega arith in ap (λ (j : ℕ). wordsWithin r (row j)) same ∙ both .1)
+      (below-or-not i n)
 
-pub nominal-if : (y : System) (row : ℕ → Words) (n : ℕ) → ((i : ℕ) → i < n → wordsWithin y (row i) ≡ true) → nominalTo y row n ≡ true
-unfolding nominalTo
-nominal-if y row zero h = refl
-nominal-if y row (suc n) h = rw (nominal-if y row n (λ i l. h i (omega arith)), h n (omega arith)) refl
+  pub within-if : (n : ℕ) → ((i : ℕ) → i < n → wordsWithin r (row i) ≡ true) → withinTo r row n ≡ true
+  unfolding withinTo
+  within-if zero h = refl
+  within-if (suc n) h = rw (within-if n (λ i l. h i (omega arith)), h n (omega arith)) refl

@@ -282,7 +282,8 @@ fn signed(word: u16, middle: u16) -> i64
     word as i64 - middle as i64
 }
 
-// R, G and B of (Y', cb, cr), in fixed point.
+// By (Y', cb, cr) they give Y' + q·cr·2(1 - kr), Y' - q·cb·2kb(1 - kb)/kg - q·cr·2kr(1 - kr)/kg and Y' + q·cb·2(1 - kb), the weights
+// here as fractions and each entry in fixed point.
 fn decoding(x: Matrix) -> [[i64; 3]; 3]
     ensures { λ r. ⌜ r ≡ decodingRows x ⌝ }
 {
@@ -299,7 +300,7 @@ fn decoding(x: Matrix) -> [[i64; 3]; 3]
     ]
 }
 
-// R, G or B by its row: half a code goes up, and what the entries are short never reaches the next code.
+// INT(row·triple / UNIT) for R, G or B; what is added beside the half makes up for what the entries are short.
 fn primary(row: [i64; 3], triple: [i64; 3]) -> i64
     requires { ⌜ Small row triple ⌝ }
     ensures { λ r. ⌜ r ≡ fromFixed (dotted row triple) ⌝ }

@@ -3,7 +3,7 @@ use Rattle.row.proofs.sample_codes.Statement.{statement}
 use Rattle.row.proofs.sample_codes.Tie as tie
 
 returns : tie.Need-returns
-returns c = cc
+returns c = λ j. record { r = c .before .before .before .before .code-in .ensures j; g = c .before .before .code-in2 .ensures j; b = c .code-in3 .ensures j }
 
 pub sample-codes-spec : {M : Type 1} → statement M
 sample-codes-spec =

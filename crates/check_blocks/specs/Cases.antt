@@ -10,7 +10,7 @@ use Rattle.systems.specs.Systems.{number}
 use Rattle.block.specs.declared.Header.{Header}
 use Rattle.block.specs.Read.{headerOf, sliceAfter}
 use Rattle.check_records.specs.declared.tally.Tally.{Tally}
-use Rattle.check_records.specs.Records.{u16At, u32At, none, tallied, ended}
+use Rattle.check_records.specs.Records.{u16At, u32At, none, tallied, Compared}
 use Rattle.check_blocks.specs.declared.cases.Case.{Case}
 
 -- what stands at a place of the lent slice before the call, and the slice of n such places
@@ -62,14 +62,12 @@ answered c block codes places = agrees (headerOf block places) c && dueTo (slice
 abbrev pub met : Case → List ℕ → Bool
 met c bs = answered c (take (c .length) bs) (drop (c .length) bs) (c .places)
 
--- the place of case n
-unfoldable pub place : List ℕ → ℕ → ℕ
-place bs zero = 0
-place bs (suc n) = place bs n + sizeOf (caseAt bs (place bs n))
+-- the bytes of the case at a place, and whether they are there
+abbrev pub sizeAt : List ℕ → ℕ → ℕ
+sizeAt bs at = sizeOf (caseAt bs at)
 
--- a whole case stands at a place
 abbrev pub completeAt : List ℕ → ℕ → Bool
-completeAt bs at = leb (at + sizeOf (caseAt bs at)) (length bs)
+completeAt bs at = leb (at + sizeAt bs at) (length bs)
 
 -- the tally after a case and the bytes behind its numbers: it counts where its refusal is the one in question
 abbrev pub caseTallied : Case → List ℕ → ℕ → Tally → Tally
@@ -77,15 +75,8 @@ caseTallied c bs refusal t = cond (eqb (c .refusal) refusal) (tallied t (met c b
 
 -- the tally after the case at a place
 abbrev pub talliedAt : List ℕ → ℕ → ℕ → Tally → Tally
-talliedAt bs refusal at t = caseTallied (caseAt bs at) (take (sizeOf (caseAt bs at) - 16) (drop (at + 16) bs)) refusal t
+talliedAt bs refusal at t = caseTallied (caseAt bs at) (take (sizeAt bs at - 16) (drop (at + 16) bs)) refusal t
 
-unfoldable pub tallyTo : List ℕ → ℕ → ℕ → Tally
-tallyTo bs refusal zero = none
-tallyTo bs refusal (suc n) = talliedAt bs refusal (place bs n) (tallyTo bs refusal n)
-
--- the tally of the cases that are there whole; bytes that are left are a case that is cut off, and it differs
-pub record Compared (bs : List ℕ) (refusal : ℕ) (t : Tally) : Type 0 where
-  pub count : ℕ
-  pub whole : place bs count ≤ length bs
-  pub no-more : length bs < place bs (suc count)
-  pub tally : t ≡ ended (tallyTo bs refusal count) (length bs - place bs count)
+-- the tally of all cases
+abbrev pub CasesCompared : List ℕ → ℕ → Tally → Type 0
+CasesCompared bs refusal t = Compared (sizeAt bs) (talliedAt bs refusal) none (λ u. u) (length bs) t

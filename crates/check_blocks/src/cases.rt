@@ -3,7 +3,7 @@ ghost use mathlib.Core.Path.{_≡_};
 ghost use Prim.Native.Nat.{_+_, _≤_};
 ghost use lib.ListN.{length};
 ghost use Rattle.block.specs.Read.{headerOutcome};
-ghost use Rattle.check_blocks.specs.Cases.{caseAt, sizeOf, sameHeader, agrees, answered, met, completeAt, caseTallied, Compared};
+ghost use Rattle.check_blocks.specs.Cases.{caseAt, sizeOf, sameHeader, agrees, answered, met, completeAt, caseTallied, CasesCompared};
 use crate::slice;
 use block::BlockRead;
 use block::Header;
@@ -24,7 +24,7 @@ struct Case {
 
 // Compares the cases in which this refusal is due, or for 0 those in which the block is accepted. A case that is cut off differs.
 pub fn compare(cases: &[u8], refusal: u32) -> Tally
-    ensures { λ r. ⌜ Compared (now (cases .entry)) refusal r ⌝ }
+    ensures { λ r. ⌜ CasesCompared (now (cases .entry)) refusal r ⌝ }
 {
     let mut tally = Tally::NONE;
     let mut at = 0;

@@ -15,7 +15,7 @@ use Rattle.picture.specs.declared.Phase.the-variants.{Fresh, Open, Closed}
 use Rattle.picture.specs.declared.Picture.{Picture}
 use Rattle.picture.specs.Picture.{at, opening, rowing, bufferAfter, closing}
 use Rattle.check_records.specs.declared.tally.Tally.{Tally}
-use Rattle.check_records.specs.Records.{u16At, u32At, none, tallied, ended}
+use Rattle.check_records.specs.Records.{u16At, u32At, none, tallied, Compared}
 use Rattle.check_pictures.specs.declared.call.Call.{Call}
 
 -- the numbers of the call at a place
@@ -166,25 +166,17 @@ afterCall c bs lights kind refusal s =
 abbrev pub sizeOf : Call → ℕ
 sizeOf c = 26 + blockLength c + 12 * c .samples
 
--- the place of call n, and whether a whole call stands at a place
-unfoldable pub place : List ℕ → ℕ → ℕ
-place bs zero = 0
-place bs (suc n) = place bs n + sizeOf (callAt bs (place bs n))
+-- the bytes of the call at a place, and whether they are there
+abbrev pub sizeAt : List ℕ → ℕ → ℕ
+sizeAt bs at = sizeOf (callAt bs at)
 
 abbrev pub completeAt : List ℕ → ℕ → Bool
-completeAt bs at = leb (at + sizeOf (callAt bs at)) (length bs)
+completeAt bs at = leb (at + sizeAt bs at) (length bs)
 
--- the state after the call at a place, and after the first n calls
+-- the state after the call at a place
 abbrev pub stateAfter : List ℕ → List ℕ → ℕ → ℕ → ℕ → State → State
-stateAfter bs lights kind refusal at s = afterCall (callAt bs at) (take (sizeOf (callAt bs at) - 26) (drop (at + 26) bs)) lights kind refusal s
+stateAfter bs lights kind refusal at s = afterCall (callAt bs at) (take (sizeAt bs at - 26) (drop (at + 26) bs)) lights kind refusal s
 
-unfoldable pub stateTo : List ℕ → List ℕ → ℕ → ℕ → State → ℕ → State
-stateTo bs lights kind refusal s zero = s
-stateTo bs lights kind refusal s (suc n) = stateAfter bs lights kind refusal (place bs n) (stateTo bs lights kind refusal s n)
-
--- the tally of the calls that are there whole, from a state on; bytes that are left are a call that is cut off, and it differs
-pub record Compared (bs lights : List ℕ) (kind refusal : ℕ) (s : State) (t : Tally) : Type 0 where
-  pub count : ℕ
-  pub whole : place bs count ≤ length bs
-  pub no-more : length bs < place bs (suc count)
-  pub tally : t ≡ ended (stateTo bs lights kind refusal s count .tally) (length bs - place bs count)
+-- the tally of all calls, from a state on
+abbrev pub CallsCompared : List ℕ → List ℕ → ℕ → ℕ → State → Tally → Type 0
+CallsCompared bs lights kind refusal s t = Compared (sizeAt bs) (stateAfter bs lights kind refusal) s (λ (x : State). x .tally) (length bs) t

@@ -3,7 +3,7 @@ ghost use mathlib.Core.Path.{_≡_};
 ghost use Prim.Native.Nat.{_≤_};
 ghost use lib.ListN.{length, replicate};
 ghost use Rattle.picture.specs.Picture.{pictureOutcome};
-ghost use Rattle.check_pictures.specs.Calls.{blockLength, rowsOf, after, expected, beginAlike, answered, met, completeAt, state, begun, afterCall, Compared};
+ghost use Rattle.check_pictures.specs.Calls.{blockLength, rowsOf, after, expected, beginAlike, answered, met, completeAt, state, begun, afterCall, CallsCompared};
 use crate::call;
 use crate::call::Call;
 use crate::reading;
@@ -20,7 +20,7 @@ struct Play {
 
 // Compares the calls of a kind in which this refusal is due, or for 0 those that are accepted. A call that is cut off differs.
 pub fn compare(calls: &[u8], lights: &[u16], kind: u16, refusal: u32) -> Tally
-    ensures { λ r. ⌜ Compared (now (calls .entry)) (now (lights .entry)) kind refusal (begun (replicate 46100 171) (replicate 46100 171)) r ⌝ }
+    ensures { λ r. ⌜ CallsCompared (now (calls .entry)) (now (lights .entry)) kind refusal (begun (replicate 46100 171) (replicate 46100 171)) r ⌝ }
 {
     let mut lent = [171u8; 46100];
     let mut due = [171u8; 46100];
@@ -36,7 +36,7 @@ fn compare_with(
     lent: &mut [u8],
     due: &mut [u8],
 ) -> Tally
-    ensures { λ r. ⌜ Compared (now (calls .entry)) (now (lights .entry)) kind refusal (begun (now (lent .entry)) (now (due .entry))) r ⌝ }
+    ensures { λ r. ⌜ CallsCompared (now (calls .entry)) (now (lights .entry)) kind refusal (begun (now (lent .entry)) (now (due .entry))) r ⌝ }
 {
     let mut play = Play {
         picture: Picture::new(),

@@ -1,6 +1,7 @@
 -- What the programs that compare go by: the numbers in the files of data, the count of comparisons, and nominal codes.
 -- Definitions only.
-use Prim.Native.Nat.{ℕ, zero, suc, _+_, _*_, _-_, _/_, _%_, _^_, min}
+use Prim.Native.Nat.{ℕ, zero, suc, _+_, _*_, _-_, _/_, _%_, _^_, _≤_, _<_, min}
+use mathlib.Core.Path.{_≡_}
 use mathlib.Core.Bool.{Bool, true, false, cond}
 use mathlib.Core.List.{List}
 use lib.Dec.{eqb}
@@ -39,6 +40,25 @@ ended t left = cond (eqb left 0) t (tallied t false)
 -- the tally of data in records of a size
 abbrev pub tallyOf : ℕ → (List ℕ → ℕ → Bool) → List ℕ → Tally
 tallyOf size same bs = ended (tallyTo (same bs) (length bs / size)) (length bs % size)
+
+-- ---- records of any size, one behind the other; size has the bytes of the one at a place
+
+-- the place of record n
+unfoldable pub place : (ℕ → ℕ) → ℕ → ℕ
+place size zero = 0
+place size (suc n) = place size n + size (place size n)
+
+-- the state after the first n records, by what the one at a place makes of a state
+unfoldable pub stateTo : {S : Type 0} → (ℕ → ℕ) → (ℕ → S → S) → S → ℕ → S
+stateTo size step s zero = s
+stateTo size step s (suc n) = step (place size n) (stateTo size step s n)
+
+-- t is the tally that the records which are there whole leave; bytes that are left are a record that is cut off, and it differs
+pub record Compared {S : Type 0} (size : ℕ → ℕ) (step : ℕ → S → S) (s : S) (tally : S → Tally) (bytes : ℕ) (t : Tally) : Type 0 where
+  pub count : ℕ
+  pub whole : place size count ≤ bytes
+  pub no-more : bytes < place size (suc count)
+  pub is : t ≡ ended (tally (stateTo size step s count)) (bytes - place size count)
 
 -- s of a system's number: 1, 4, 4 and, from 4 on, 16
 abbrev pub scaleOf : ℕ → ℕ

@@ -5,29 +5,30 @@ use lib.ListN.{length, length-take, length-drop}
 use denote.Ref.{now}
 use borrow.Author.Needs.{needs}
 use borrow.Author.Tests.{leb-true, leb-false}
-use Rattle.check_blocks.specs.Cases.{caseAt, sizeOf}
-use Rattle.check_blocks.proofs.Counting.{SoFar, none-yet, one-more, all-counted}
+use Rattle.check_records.specs.Records.{none}
+use Rattle.check_blocks.specs.Cases.{sizeOf, sizeAt, talliedAt}
+use Rattle.check_records.proofs.Behind.{SoFar, none-yet, one-more, all-counted}
 use Rattle.check_blocks.proofs.cases.compare.Statement.{statement}
 use Rattle.check_blocks.proofs.cases.compare.Tie as tie
 
 abbrev Inv-loop : tie.InvT-loop
-Inv-loop cases refusal tally₀ at₀ tally at = SoFar cases refusal at tally
+Inv-loop cases refusal tally₀ at₀ tally at = SoFar (sizeAt cases) (talliedAt cases refusal) none (length cases) at tally
 
 abbrev μ-loop : tie.MeasureT-loop
 μ-loop cases refusal tally₀ at₀ tally at = length cases - at
 
 -- the case at the loop's place is whole
-whole : (c : tie.Then1 Inv-loop μ-loop) → c .before .before .loop .at + sizeOf (caseAt (now (c .before .before .before .before .args .cases)) (c .before .before .loop .at)) ≤ length (now (c .before .before .before .before .args .cases))
+whole : (c : tie.Then1 Inv-loop μ-loop) → c .before .before .loop .at + sizeAt (now (c .before .before .before .before .args .cases)) (c .before .before .loop .at) ≤ length (now (c .before .before .before .before .args .cases))
 whole c = leb-true _ _ (sym (c .before .holds-case .ensures) ∙ c .if1 .taken)
 
-sized : (c : tie.After-size Inv-loop μ-loop) → c .size .result ≡ sizeOf (caseAt (now (c .before .before .before .before .before .before .args .cases)) (c .before .before .before .before .loop .at))
+sized : (c : tie.After-size Inv-loop μ-loop) → c .size .result ≡ sizeAt (now (c .before .before .before .before .before .before .args .cases)) (c .before .before .before .before .loop .at)
 sized c = c .size .ensures .0 ∙ ap sizeOf (c .before .case-at .ensures)
 
 within : (c : tie.After-size Inv-loop μ-loop) → c .before .before .before .before .loop .at + c .size .result ≤ length (now (c .before .before .before .before .before .before .args .cases))
 within c = rw (sized c) (whole (c .before .before))
 
 loop-holds : tie.Need-loop-holds Inv-loop μ-loop
-loop-holds c = none-yet _ _
+loop-holds c = none-yet _ _ _ _
 
 holds-case-requires : tie.Need-holds-case-requires Inv-loop μ-loop
 holds-case-requires c κs = c .loop .inv .within
@@ -63,14 +64,14 @@ loop-again : tie.Need-loop-again Inv-loop μ-loop
 loop-again c =
     let t = c .before .before in
     let l = t .before .before .before .before .loop in
-    let n : (l .at + t .size .result) - (l .at + 16) ≡ sizeOf (caseAt (now (t .before .before .before .before .before .before .args .cases)) (l .at)) - 16 = omega (arith, sized t) in
+    let n : (l .at + t .size .result) - (l .at + 16) ≡ sizeAt (now (t .before .before .before .before .before .before .args .cases)) (l .at) - 16 = omega (arith, sized t) in
     one-more (l .inv) _ (within t) (sized t) (rw (n, t .before .case-at .ensures) at (c .with-case .ensures))
 
 sub-ended : tie.Need-sub-ended Inv-loop μ-loop
 sub-ended c = c .before .before .loop .inv .within
 
 returns : tie.Need-returns Inv-loop μ-loop
-returns c = all-counted (c .before .before .before .loop .inv) (leb-false _ _ (sym (c .before .before .holds-case .ensures) ∙ c .before .if1 .left)) (c .ended .ensures)
+returns c = all-counted (c .before .before .before .loop .inv) (λ t. t) (leb-false _ _ (sym (c .before .before .holds-case .ensures) ∙ c .before .if1 .left)) (c .ended .ensures)
 
 pub compare-spec : {M : Type 1} → statement M
 compare-spec =

@@ -67,9 +67,7 @@ module _ (bs slice : List ℕ) where
 
 -- the bounds of an accepted block: it has no byte more than its samples take
 pub record InBounds (bs : List ℕ) (room : ℕ) (h : Header) : Type 0 where
-  pub size : length bs ≡ 9 + 6 * h .samples
-  pub some : 1 ≤ h .samples
-  pub most : h .samples ≤ 7680
+  pub shape : Sectioned bs (h .samples)
   pub row : h .row ≤ 4319
   pub fits : 3 * h .samples ≤ room
 
@@ -80,13 +78,7 @@ accepted-has-its-length bs room h e =
     let b = judged .0 in
     let ends = required (leb (3 * b .samples) room) 5 (header b bs) h (judged .2) in
     let sound = judged-sound bs b (judged .1) in
-    rw (← (ends .1)) record {
-      size = sound .shape .size;
-      some = sound .shape .some;
-      most = sound .shape .most;
-      row = sound .row;
-      fits = leb-true (3 * b .samples) room (ends .0);
-    }
+    rw (← (ends .1)) record { shape = sound .shape; row = sound .row; fits = leb-true (3 * b .samples) room (ends .0) }
 
 -- reading neither grows the slice nor shortens it
 pub slice-keeps-its-length : (bs slice : List ℕ) → length (sliceAfter bs slice) ≡ length slice

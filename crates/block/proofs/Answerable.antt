@@ -7,8 +7,7 @@ use lib.Dec.{leb, eqb}
 use lib.ListN.{length, getD}
 use Rattle.systems.specs.declared.refusal.Refusal.the-variants as refusal
 use Rattle.systems.proofs.Answerable.{Answerable, values, tested, followed, named-answerable}
-use Rattle.matrix.specs.Triples.{nominalWords}
-use Rattle.block.specs.Read.{fieldAt, sectionAt, widthOk, sections, walk, sampleAt, withinTo, judge, headerOf}
+use Rattle.block.specs.Read.{fieldAt, sectionAt, widthOk, sections, walk, wordsOk, judge, headerOf}
 
 section-answerable : (bs : List ℕ) (i : ℕ) (good : ℕ → Bool) → Answerable (sectionAt bs i good)
 section-answerable bs i good =
@@ -34,7 +33,7 @@ walk-answerable bs =
 
 judge-answerable : (bs : List ℕ) → Answerable (judge bs)
 unfolding judge
-judge-answerable bs = followed (walk-answerable bs) (λ b. tested (withinTo (nominalWords (b .system)) (sampleAt bs (b .samples)) (b .samples)) refusal.Code (values b))
+judge-answerable bs = followed (walk-answerable bs) (λ b. tested (wordsOk b bs) refusal.Code (values b))
 
 pub reading-answerable : (bs : List ℕ) (room : ℕ) → Answerable (headerOf bs room)
 unfolding headerOf

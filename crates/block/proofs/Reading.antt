@@ -11,11 +11,10 @@ use lib.Seq.{drop-at}
 use borrow.Author.Tests.{le-leb, leb-true}
 use Rattle.exact.specs.Outcome.{Outcome, accepted, refused}
 use Rattle.exact.proofs.Outcome.{accepted-first, required}
-use Rattle.matrix.specs.Triples.{nominalWords}
 use Rattle.matrix.proofs.Tested.{twelve-bits}
 use Rattle.block.specs.declared.Header.{Header}
 use Rattle.block.specs.declared.Judged.{Judged}
-use Rattle.block.specs.Read.{walk, sampleAt, withinTo, judge, rowOf, codesTo, header, headerOf, sliceBy, sliceAfter}
+use Rattle.block.specs.Read.{walk, wordsOk, judge, rowOf, codesTo, header, headerOf, sliceBy, sliceAfter}
 use Rattle.block.specs.Inner.{Decodable}
 use Rattle.block.proofs.Walking.{Sectioned, walk-accepted}
 use Rattle.block.proofs.Ranges.{within-at}
@@ -25,16 +24,16 @@ use Rattle.block.proofs.Decoding.{length-codes, length-kept}
 pub record Sound (bs : List ℕ) (b : Judged) : Type 0 where
   pub shape : Sectioned bs (b .samples)
   pub row : b .row ≤ 4319
-  pub nominal : withinTo (nominalWords (b .system)) (sampleAt bs (b .samples)) (b .samples) ≡ true
+  pub words : wordsOk b bs ≡ true
 
 pub judged-sound : (bs : List ℕ) (b : Judged) → judge bs ≡ accepted b → Sound bs b
 unfolding judge
 judged-sound bs b e =
     let walked = accepted-first (walk bs) _ b e in
     let a = walked .0 in
-    let tested = required (withinTo (nominalWords (a .system)) (sampleAt bs (a .samples)) (a .samples)) 6 a b (walked .2) in
+    let tested = required (wordsOk a bs) 6 a b (walked .2) in
     let shape = walk-accepted bs a (walked .1) in
-    rw (← (tested .1)) record { shape = shape .0; row = shape .1; nominal = tested .0 }
+    rw (← (tested .1)) record { shape = shape .0; row = shape .1; words = tested .0 }
 
 module _ (bs : List ℕ) (room : ℕ) where
   -- what judging refuses is refused whatever the room is
@@ -53,7 +52,7 @@ module _ (bs : List ℕ) (room : ℕ) where
         record {
           long = omega (arith, sound .shape .size);
           narrow = sound .shape .most;
-          words = λ i l. twelve-bits (b .system) _ (within-at (nominalWords (b .system)) (sampleAt bs (b .samples)) (b .samples) i (sound .nominal) l);
+          words = λ i l. twelve-bits (b .system) _ (within-at _ _ _ i (sound .words) l);
           fits = h;
         }
 
@@ -67,9 +66,7 @@ module _ (bs slice : List ℕ) where
 
 -- the bounds of an accepted block: it has no byte more than its samples take
 pub record InBounds (bs : List ℕ) (room : ℕ) (h : Header) : Type 0 where
-  pub size : length bs ≡ 9 + 6 * h .samples
-  pub some : 1 ≤ h .samples
-  pub most : h .samples ≤ 7680
+  pub shape : Sectioned bs (h .samples)
   pub row : h .row ≤ 4319
   pub fits : 3 * h .samples ≤ room
 
@@ -80,13 +77,7 @@ accepted-has-its-length bs room h e =
     let b = judged .0 in
     let ends = required (leb (3 * b .samples) room) 5 (header b bs) h (judged .2) in
     let sound = judged-sound bs b (judged .1) in
-    rw (← (ends .1)) record {
-      size = sound .shape .size;
-      some = sound .shape .some;
-      most = sound .shape .most;
-      row = sound .row;
-      fits = leb-true (3 * b .samples) room (ends .0);
-    }
+    rw (← (ends .1)) record { shape = sound .shape; row = sound .row; fits = leb-true (3 * b .samples) room (ends .0) }
 
 -- reading neither grows the slice nor shortens it
 pub slice-keeps-its-length : (bs slice : List ℕ) → length (sliceAfter bs slice) ≡ length slice

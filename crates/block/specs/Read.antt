@@ -65,9 +65,13 @@ unfoldable pub withinTo : WordRanges → (ℕ → Words) → ℕ → Bool
 withinTo r sample zero = true
 withinTo r sample (suc n) = withinTo r sample n && wordsWithin r (sample n)
 
+-- the words of a block that was walked are nominal
+abbrev pub wordsOk : Judged → List ℕ → Bool
+wordsOk b bs = withinTo (nominalWords (b .system)) (sampleAt bs (b .samples)) (b .samples)
+
 -- a block judged by itself: after the walk 6
 unfoldable pub judge : List ℕ → Outcome Judged
-judge bs = walk bs and-then λ b. require (withinTo (nominalWords (b .system)) (sampleAt bs (b .samples)) (b .samples)) 6 (accepted b)
+judge bs = walk bs and-then λ b. require (wordsOk b bs) 6 (accepted b)
 
 -- the codes of a row's samples, from their words
 abbrev pub decoded : System → (ℕ → Words) → ℕ → Clipped

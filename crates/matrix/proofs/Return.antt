@@ -15,7 +15,7 @@ use Rattle.systems.specs.declared.Matrix.the-variants.{Bt709, Bt2020}
 use Rattle.systems.specs.declared.Range.{Range}
 use Rattle.systems.specs.Systems.{kr, kb}
 use Rattle.matrix.specs.declared.Words.{Words}
-use Rattle.matrix.specs.Triples.{weighted, natural, primary, signed, greenOf, wordsAt, noClips, _plus_, clipped, codesAt}
+use Rattle.matrix.specs.Triples.{weighted, natural, primary, signed, greenOf, wordsAt, noClips, _plus_, codesAt}
 use Rattle.matrix.specs.Inner.{NominalCodes}
 use Rattle.matrix.proofs.Fractions.{luma-rounds, difference-rounds, primary-rounds, green-rounds}
 use Rattle.matrix.proofs.Nominal.{divisors, Word, WordsOf, words-of, words-are}
@@ -47,15 +47,12 @@ pub record CodesWithinOne (c d : Codes) : Type 0 where
 
 -- clipped to a range that holds the nominal codes
 module _ (x : Matrix) (s : ℕ) (n : Range) (c : Codes) (low : n .low ≤ 16 * s) (high : 235 * s ≤ n .high) (nominal : NominalCodes s c) where
-  nearer : (v : ℤ) (d : ℕ) → 16 * s ≤ d → d ≤ 235 * s → OffByOne v d → (clipped n v ≤ d + 1) × (d ≤ clipped n v + 1)
-  nearer v d l h = clipped-nearer n v d (omega arith) (omega arith)
-
   codes-near : (v : WordsOf x s c) → CodesWithinOne (codesAt x s n (words x s c v) .codes) c
   unfolding codesAt
   codes-near v = record {
-    r = nearer _ (c .r) (nominal .r-low) (nominal .r-high) (primary-near s (kr x) (c .r) (weighted x c) (v .y) (v .cr));
-    g = nearer _ (c .g) (nominal .g-low) (nominal .g-high) (green-near x s c v);
-    b = nearer _ (c .b) (nominal .b-low) (nominal .b-high) (primary-near s (kb x) (c .b) (weighted x c) (v .y) (v .cb));
+    r = clipped-nearer n _ (c .r) (omega arith) (omega arith) (primary-near s (kr x) (c .r) (weighted x c) (v .y) (v .cr));
+    g = clipped-nearer n _ (c .g) (omega arith) (omega arith) (green-near x s c v);
+    b = clipped-nearer n _ (c .b) (omega arith) (omega arith) (primary-near s (kb x) (c .b) (weighted x c) (v .y) (v .cb));
   }
 
   pub codes-return-within-one : CodesWithinOne (codesAt x s n (wordsAt x s c) .codes) c

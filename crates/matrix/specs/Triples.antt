@@ -90,7 +90,7 @@ infixl 6 _plus_
 abbrev pub _plus_ : Clips → Clips → Clips
 a plus b = record { total = a .total + b .total }
 
--- a component brought to the nearer end of a range where it is beyond it, and whether it was
+-- a component brought to the nearer end of a range where it is beyond it, and 1 where it was
 abbrev pub clipped : Range → ℤ → ℕ
 clipped r v = elim (ltZ v (pos (r .low))) [ true ↦ r .low | false ↦ elim (ltZ (pos (r .high)) v) [ true ↦ r .high | false ↦ natural v ] ]
 

@@ -5,6 +5,7 @@ use lib.Dec.{eqb}
 use denote.Ref.{now}
 use Rattle.block.specs.Inner.{inRange}
 use Rattle.block.proofs.Ranges.{misses-small, range-more}
+use borrow.Author.Needs.{needs}
 use Rattle.block.proofs.outside.Statement.{statement}
 use Rattle.block.proofs.outside.Tie as tie
 
@@ -18,32 +19,11 @@ loop-holds : tie.Need-loop-holds Inv-loop μ-loop
 unfolding inRange
 loop-holds c = (omega arith, omega arith, refl)
 
-mul-field-at : tie.Need-mul-field-at Inv-loop μ-loop
-mul-field-at c = omega arith
-
-add-field-at : tie.Need-add-field-at Inv-loop μ-loop
-add-field-at c = omega arith
-
-field-at-requires : tie.Need-field-at-requires Inv-loop μ-loop
-field-at-requires c κs = omega arith
-
-cast-bad : tie.Need-cast-bad Inv-loop μ-loop
-cast-bad c = tt
-
-cast-bad-2 : tie.Need-cast-bad-2 Inv-loop μ-loop
-cast-bad-2 c = tt
-
 add-bad : tie.Need-add-bad Inv-loop μ-loop
 add-bad c = omega (arith, misses-small (c .before .before .before .before .args .range) (c .field-at .result))
 
 add-bad-2 : tie.Need-add-bad-2 Inv-loop μ-loop
 add-bad-2 c = omega (arith, misses-small (c .before .before .before .before .args .range) (c .field-at .result))
-
-add-i : tie.Need-add-i Inv-loop μ-loop
-add-i c = omega arith
-
-loop-less : tie.Need-loop-less Inv-loop μ-loop
-loop-less c = omega arith
 
 loop-again : tie.Need-loop-again Inv-loop μ-loop
 loop-again c =
@@ -61,18 +41,5 @@ returns c =
 pub outside-spec : {M : Type 1} → statement M
 outside-spec =
     tie.close
-    (tie.spec
-    Inv-loop
-    μ-loop
-    loop-holds
-    mul-field-at
-    add-field-at
-    field-at-requires
-    cast-bad
-    cast-bad-2
-    add-bad
-    add-bad-2
-    add-i
-    loop-less
-    loop-again
-    returns)
+    (tie.spec Inv-loop μ-loop loop-holds (λ c. search needs) (λ c. search needs) (λ c κs. search needs) (λ c. search needs) (λ c. search needs) add-bad
+    add-bad-2 (λ c. search needs) (λ c. search needs) loop-again returns)

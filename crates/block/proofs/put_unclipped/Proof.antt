@@ -12,6 +12,7 @@ use Rattle.matrix.proofs.DecodingRows.{unclipped-small}
 use Rattle.block.specs.Read.{sampleAt}
 use Rattle.block.specs.Inner.{biasedTriple, biasedRow}
 use Rattle.block.proofs.Decoding.{SoFar, none-yet, one-more, all-done, so-far-long}
+use borrow.Author.Needs.{needs}
 use Rattle.block.proofs.put_unclipped.Statement.{statement}
 use Rattle.block.proofs.put_unclipped.Tie as tie
 
@@ -43,12 +44,6 @@ put-triple-requires c κs =
     let room = so-far-long _ _ _ _ _ (s .pre .fits) (l .before .loop .inv) in
     (omega arith, omega arith, rw (c .unclipped-by .ensures, c .before .before .words-at .ensures) record { r = small .0; g = small .1; b = small .2 })
 
-add-i : tie.Need-add-i Inv-loop μ-loop
-add-i c = omega arith
-
-loop-less : tie.Need-loop-less Inv-loop μ-loop
-loop-less c = omega arith
-
 loop-again : tie.Need-loop-again Inv-loop μ-loop
 loop-again c =
     let s = c .before .before .before .before .before .before .before .before .before .before in
@@ -65,15 +60,5 @@ returns c = all-done _ _ _ _ _ (c .loop-test .left) (c .before .loop .inv)
 pub put-unclipped-spec : {M : Type 1} → statement M
 put-unclipped-spec =
     tie.close
-    (tie.spec
-    Inv-loop
-    μ-loop
-    loop-holds
-    words-at-requires
-    unclipped-by-requires
-    put-triple-requires
-    add-i
-    loop-less
-    loop-again
-    same-length
-    returns)
+    (tie.spec Inv-loop μ-loop loop-holds words-at-requires unclipped-by-requires put-triple-requires (λ c. search needs)
+    (λ c. search needs) loop-again same-length returns)

@@ -23,7 +23,7 @@ put-row-requires c κs =
     let read = c .before .before .before .before .before .before .read-block .ensures in
     let bounds = accepted-has-its-length _ _ _ (sym (read .0) ∙ ap headerOutcome (c .before .before .before .header .given .1)) in
     let long = ap length (read .1) ∙ slice-keeps-its-length _ zeros in
-    (omega (arith, bounds .most, c .before .before .before .before .before .before .before .before .before .before .pre), omega (arith, bounds .fits, long))
+    (omega (arith, bounds .shape .most, c .before .before .before .before .before .before .before .before .before .before .pre), omega (arith, bounds .fits, long))
 
 returns : tie.Need-returns
 returns c =

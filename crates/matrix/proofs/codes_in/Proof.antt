@@ -18,9 +18,6 @@ components-read c =
     let small = unclipped-small (scale (s .args .y)) (s .args .w) (scale-range (s .args .y) .1) (s .pre .0) (matrix (s .args .y)) in
     rw (c .unclipped-in .ensures) (reads-back _ (omega (arith, small .0)), reads-back _ (omega (arith, small .1)), reads-back _ (omega (arith, small .2)))
 
-plus-requires : tie.Need-plus-requires
-plus-requires c κs = omega arith
-
 plus-requires-2 : tie.Need-plus-requires-2
 plus-requires-2 c κs = rw (c .before .before .plus .ensures) (omega arith)
 
@@ -39,4 +36,4 @@ pub codes-in-spec : {M : Type 1} → statement M
 codes-in-spec =
     tie.close
     (tie.spec (λ c κs. search needs) (λ c κs. search needs) (λ c κs. search needs) (λ c κs. search needs) (λ c κs. search needs)
-    (λ c κs. search needs) plus-requires (λ c κs. search needs) plus-requires-2 returns)
+    (λ c κs. search needs) (λ c κs. search needs) (λ c κs. search needs) plus-requires-2 returns)

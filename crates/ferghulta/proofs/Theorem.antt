@@ -33,7 +33,7 @@ pub record Theorem : Type 3 where
   pub any : {k l : StoredPicture} {cs : List Call} {ans : List Answer} {ls : List Lent} → Ran card k cs ans ls l → Demanded card (stateAt k) cs ans ls (stateAt l)
   -- it speaks of every list of calls, whatever the lent buffers hold, and of every reading
   pub happens : {cs : List Call} {bs : List (List ℕ)} → Lends cs bs → Happens card cs bs
-  pub answers : Answering card
+  pub calls : Answering card
 
 pub theorem : Theorem
 theorem = record {
@@ -45,5 +45,5 @@ theorem = record {
   lists = demand-3;
   any = from-any;
   happens = every-list-happens answering;
-  answers = answering;
+  calls = answering;
 }

@@ -1,4 +1,4 @@
--- What reading a block comes to can always be told, so the claims about readings speak of every block.
+-- Every outcome of reading a block has an answer that says it, so the claims about readings speak of every block.
 -- Assumes nothing.
 use Prim.Native.Nat.{ℕ, _+_, _*_}
 use mathlib.Core.Bool.{Bool}

@@ -25,7 +25,7 @@ pub record Card : Type 1 where
   pub Row : Picture → List ℕ → List ℕ → Answer → List ℕ → Picture → Type 0
   -- a picture; the answer, and the next picture
   pub Close : Picture → Answer → Picture → Type 0
-  -- a block's bytes and a lent slice; what was told, and the slice as it was left
+  -- a block's bytes and a lent slice; the answer, and the slice as it was left
   pub Read : List ℕ → List ℕ → Outcome Label → List ℕ → Type 0
 
 -- a buffer that was lent to a row: the answer to the call, and its bytes before and after

@@ -57,10 +57,10 @@ pub record StoredSample (y : System) (c : Codes) (v : Words) : Type 0 where
   pub cb-word : StoredWord y (cbOf (matrix y) (scale y) c) (v .cb)
   pub cr-word : StoredWord y (crOf (matrix y) (scale y) c) (v .cr)
 
--- a reading of the entry's block was told r, and left these words in the slice
+-- a reading of the entry's block was answered with r, and left these words in the slice
 pub record Read (e : Entry) (y : System) (r : Outcome Label) (slice : List ℕ) : Type 0 where
   -- it is accepted, with its entry's system, width and row number
-  pub told : r ≡ outcome.accepted (record { system = e .system; samples = e .width; row = e .row })
+  pub answer : r ≡ outcome.accepted (record { system = e .system; samples = e .width; row = e .row })
   -- the code at place j is that of the light at place j
   pub codes : (j : ℕ) → j < 3 * e .width → ReadCode y (getD (e .lights) j 0) (getD slice j 0)
 

@@ -203,7 +203,7 @@ module _ (y : System) (r w : ℕ) (lights : List ℕ) (some : 1 ≤ w) (most : w
     size = length-row-block y r w lights;
     words = words;
     reads = λ {slice} room given. record {
-      told = does .reads given .0 ∙ ap labelOf (answer (length slice) room);
+      answer = does .reads given .0 ∙ ap labelOf (answer (length slice) room);
       codes = λ j h. rw (does .reads given .1 ∙ left slice room) (codes lit slice j h);
     };
   }

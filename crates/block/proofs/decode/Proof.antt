@@ -28,11 +28,11 @@ module _ (c : tie.After-put-unclipped) where
   abbrev unclipped : List ℕ
   unclipped = c .put-unclipped .last .1 .1 .1 .0
 
-  abbrev rgb : Matrix → List ℕ
-  rgb x = triplesTo (biasedRow x (scale (judged .system)) (sampleAt (now (start .args .bytes)) (judged .samples))) (judged .samples) ++ drop (3 * judged .samples) (now (start .args .codes))
+  abbrev placed : Matrix → List ℕ
+  placed x = triplesTo (biasedRow x (scale (judged .system)) (sampleAt (now (start .args .bytes)) (judged .samples))) (judged .samples) ++ drop (3 * judged .samples) (now (start .args .codes))
 
-  unclipped-is : unclipped ≡ rgb (matrix (judged .system))
-  unclipped-is = c .put-unclipped .ensures ∙ (λ j. rgb (c .before .before .matrix .ensures j))
+  unclipped-is : unclipped ≡ placed (matrix (judged .system))
+  unclipped-is = c .put-unclipped .ensures ∙ (λ j. placed (c .before .before .matrix .ensures j))
 
   unclipped-long : length unclipped ≡ length (now (start .args .codes))
   unclipped-long = ap length unclipped-is ∙ triples-kept _ (judged .samples) (now (start .args .codes)) (start .pre .fits)
@@ -54,10 +54,10 @@ returns c =
     let n = b .samples in
     let done = clipped-row (matrix (b .system)) (scale (b .system)) (nominal (b .system)) (sampleAt (now (s .args .bytes)) n) (scale-range (b .system) .1) n (now (s .args .codes)) (unclipped r) (s .pre .words) (unclipped-is r) in
     let range = c .before .before .before .before .nominal .ensures in
-    let told = c .before .before .clip-all .ensures in
-    let count = told .0 ∙ ap (λ (t : Range). beyondAll t (take (3 * n) (unclipped r))) range ∙ done .0 in (
+    let clipped = c .before .before .clip-all .ensures in
+    let count = clipped .0 ∙ ap (λ (t : Range). beyondAll t (take (3 * n) (unclipped r))) range ∙ done .0 in (
       λ j. record { system = b .system; row = b .row; samples = n; clips = count j },
-      told .1 ∙ ap (λ (t : Range). clippedAll t (take (3 * n) (unclipped r)) ++ drop (3 * n) (unclipped r)) range ∙ done .1,
+      clipped .1 ∙ ap (λ (t : Range). clippedAll t (take (3 * n) (unclipped r)) ++ drop (3 * n) (unclipped r)) range ∙ done .1,
     )
 
 pub decode-spec : {M : Type 1} → statement M

@@ -4,7 +4,7 @@ use Rattle.picture.specs.Picture.{rowOpen}
 use Rattle.picture.proofs.next_row.Statement.{statement}
 use Rattle.picture.proofs.next_row.Tie as tie
 
--- a test's value, where a branch has told it
+-- a test's value, by the branch that was taken
 ruleset tests = (lt-ltb, le-ltb, le-leb, lt-leb, eq-eqb, ne-eqb)
 
 returns : tie.Need-returns

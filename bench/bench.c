@@ -10,6 +10,7 @@
 #include "calls.h"
 #include "contestants.h"
 #include "exact.h"
+#include "segments.h"
 
 // What is done just before a contestant is timed: nothing, so that it meets the rows as its turn finds them; a run of its own, so
 // that few rows are in the cache and the work alone is timed; or a sweep through other memory, so that rows come from far away.
@@ -215,6 +216,22 @@ static void time_single_calls(int rounds)
     }
 }
 
+// Rows as long as the blocks of 1920 and of 7680 samples.
+static void time_segments(int rounds)
+{
+    static const size_t ROW_BYTES[] = {11529, 46089};
+    printf("\nms for 1080 rows\n%-12s%-20s%10s\n", "row bytes", "call", "ms");
+    for (size_t i = 0; i < sizeof ROW_BYTES / sizeof *ROW_BYTES; i++) {
+        const struct set set = {"memory", ROW_BYTES[i], 1080, NOTHING};
+        struct move moves[MOVES];
+        time_moves(ROW_BYTES[i], rounds, moves);
+        for (int m = 0; m < MOVES; m++) {
+            printf("%-12zu%-20s%10.2f\n", ROW_BYTES[i], moves[m].name, moves[m].milliseconds);
+            put_csv("move", &set, 0, "move", moves[m].name, moves[m].milliseconds);
+        }
+    }
+}
+
 static void list(void)
 {
     static const struct set LEAST = {"list", ALIGN, 1, NOTHING};
@@ -273,6 +290,7 @@ int main(int argc, char **argv)
     time_all(rounds);
     compare_all(&COMPARED);
     time_single_calls(rounds);
+    time_segments(rounds);
     if (csv && fclose(csv))
         stop("the CSV file cannot be written");
 }

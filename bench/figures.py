@@ -35,6 +35,9 @@ class Figures:
     def call_names(self):
         return [key[-1] for key in self.values if key[0] == "call" and key[3] == 1]
 
+    def move(self, row_bytes, name):
+        return self.values["move", row_bytes, "memory", 0, "move", name]
+
 
 def counts(path):
     """Instructions a sample by system, way and name; nothing where they were not counted."""

@@ -11,8 +11,9 @@ SETS = ((1920, "a picture"), (7680, "a picture"), (1920, "cache"), (7680, "cache
 ROW, READ = "light to words", "words to codes"
 EXACT, APPROXIMATE = "zimg exact gamma", "zimg approximate gamma"
 DEFAULT, WIDEST = "zimg", "zimg 64-byte vectors"
-# What is asked of one run at width 7680.
+# What is asked of one run at width 7680, and of moving rows beside memcpy.
 LEAST_FASTER, MOST_SLOWER = 4, 4
+ROW_BYTES, MOST_MOVING = (11529, 46089), 2
 
 
 def table(head, lines):
@@ -87,6 +88,15 @@ def call_table(f):
     return table(["ns a call", *(f"system {s}" for s in SYSTEMS)], lines)
 
 
+def move_lines(f):
+    for row_bytes in ROW_BYTES:
+        copied = f.move(row_bytes, "memcpy")
+        for name in ("to_segmented", "to_progressive"):
+            ours = f.move(row_bytes, name)
+            met = "met" if ours <= MOST_MOVING * copied else "not met"
+            yield [f"`{name}`", str(row_bytes), f"{ours:.2f}", f"{copied:.2f}", f"{ours / copied:.2f}", met]
+
+
 def count_table(counted):
     names = list(dict.fromkeys((way, name) for _, way, name in counted))
     lines = [[f"{way}, {name}", *(f"{counted[s, way, name]:.1f}" for s in SYSTEMS)] for way, name in names]
@@ -127,6 +137,8 @@ def report(folder):
         "### Targets, at width 7680", table(["asked", "rows from", "ratios of the systems", "result"], list(target_lines(f))),
         "### Words and codes that are not exact (and the worst distance)", accuracy_table(f),
         "### Single calls", call_table(f),
+        f"### Segmented frames, ms for 1080 rows (asked: at most {MOST_MOVING} times the time of memcpy)",
+        table(["call", "row bytes", "ours", "memcpy", "ours / memcpy", "result"], list(move_lines(f))),
     ]  # fmt: skip
     if counted:
         parts += ["### Instructions, rows of 1920", count_table(counted)]

@@ -22,6 +22,7 @@ pub mod refusal {
     pub const NOT_OPEN: u32 = 22;
     pub const ALL_ROWS: u32 = 23;
     pub const ROWS_MISSING: u32 = 24;
+    pub const LENGTH: u32 = 31;
 }
 
 fn require(condition: bool, refusal: u32) -> Outcome<()> {
@@ -498,4 +499,46 @@ pub fn close(picture: Picture) -> Outcome<Picture> {
     let opened = opened(picture)?;
     require(opened.rows == opened.height, refusal::ROWS_MISSING)?;
     Ok(Picture::Closed)
+}
+
+// ---- request 2026-01, segmented frames
+
+const LINES: usize = 1080;
+
+/// The total line of an active line, both counted from 1.
+fn total_line(active: usize) -> usize {
+    if active % 2 == 1 {
+        21 + (active - 1) / 2
+    } else {
+        584 + (active - 2) / 2
+    }
+}
+
+/// Active lines in rising total line.
+fn lines_by_total() -> Vec<usize> {
+    let mut lines: Vec<usize> = (1..=LINES).collect();
+    lines.sort_by_key(|&line| total_line(line));
+    lines
+}
+
+/// The bytes of a row.
+fn row_bytes(length: usize, room: usize) -> Outcome<usize> {
+    let refused = [length, room].iter().any(|&l| l == 0 || l % LINES != 0) || length != room;
+    require(!refused, refusal::LENGTH)?;
+    Ok(length / LINES)
+}
+
+pub fn to_segmented(from: &[u8], room: usize) -> Outcome<Vec<u8>> {
+    let bytes = row_bytes(from.len(), room)?;
+    let row = |line: usize| &from[bytes * (line - 1)..bytes * line];
+    Ok(lines_by_total().into_iter().flat_map(row).copied().collect())
+}
+
+pub fn to_progressive(from: &[u8], room: usize) -> Outcome<Vec<u8>> {
+    let bytes = row_bytes(from.len(), room)?;
+    let mut rows = vec![0; room];
+    for (place, line) in lines_by_total().into_iter().enumerate() {
+        rows[bytes * (line - 1)..bytes * line].copy_from_slice(&from[bytes * place..bytes * (place + 1)]);
+    }
+    Ok(rows)
 }

@@ -2,6 +2,7 @@
 use crate::pseudorandom::Pseudorandom;
 use std::cell::RefCell;
 use std::ffi::c_void;
+use std::mem::{size_of, size_of_val};
 
 const GUARD: usize = 16;
 const PAGE: usize = 4096;
@@ -78,8 +79,10 @@ impl<T: Item> Lent<T> {
     }
 
     pub fn holding(content: &[T], random: &mut Pseudorandom) -> Lent<T> {
+        // Memory that is too long for the pages stands on the heap with guards on both sides.
+        let ways = if size_of_val(content) + GUARD * size_of::<T>() <= PAGES * PAGE { 6 } else { 2 };
         // A guard that is odd or absent, so that bytes also start where no word does.
-        let (home, before, after) = match random.below(6) {
+        let (home, before, after) = match random.below(ways) {
             0 => (Home::Heap, GUARD, GUARD),
             1 => (Home::Heap, GUARD + 1, GUARD),
             2 => (Home::Heap, 1, 0),

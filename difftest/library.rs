@@ -25,6 +25,8 @@ extern "C" {
         codes: *mut u16,
         places: usize,
     ) -> BlockAnswer;
+    pub fn ferghulta_to_segmented(from: *const u8, length: usize, to: *mut u8, room: usize) -> u32;
+    pub fn ferghulta_to_progressive(from: *const u8, length: usize, to: *mut u8, room: usize) -> u32;
 }
 
 /// The same calls with what the x86-64 convention leaves open, filled: the upper half of a register with a u32, the fourth word of

@@ -11,6 +11,7 @@ mod lists;
 mod natural;
 mod pictures;
 mod pseudorandom;
+mod segments;
 mod tally;
 mod values;
 
@@ -77,6 +78,7 @@ fn compare(effort: &Effort, seed: u64) -> bool {
         & pictures::close(effort, random)
         & lists::lists(effort, random)
         & pictures::rows_of_every_light(effort, random)
+        & segments::segments(effort, random)
 }
 
 /// The form, and cases and seed where they are given.

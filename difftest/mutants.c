@@ -14,6 +14,8 @@ ferghulta_picture right_ferghulta_new(void);
 ferghulta_picture_answer right_ferghulta_open(ferghulta_picture, uint32_t, uint32_t, uint32_t);
 ferghulta_picture_answer right_ferghulta_row(ferghulta_picture, const uint16_t *, size_t, uint8_t *, size_t);
 ferghulta_picture_answer right_ferghulta_close(ferghulta_picture);
+uint32_t right_ferghulta_to_segmented(const uint8_t *, size_t, uint8_t *, size_t);
+uint32_t right_ferghulta_to_progressive(const uint8_t *, size_t, uint8_t *, size_t);
 
 static volatile uint8_t kept;
 
@@ -131,4 +133,21 @@ ferghulta_picture_answer ferghulta_close(ferghulta_picture picture)
     if (mutant(22) && answer.refusal == 22 && picture.phase == 1 && picture.rows > picture.height)
         answer.refusal = 24; /* a picture that no call gives, taken as open */
     return answer;
+}
+
+uint32_t ferghulta_to_segmented(const uint8_t *from, size_t length, uint8_t *to, size_t room)
+{
+    uint32_t refusal = right_ferghulta_to_segmented(from, length, to, room);
+    if (mutant(23) && refusal == 0)
+        to[room - 1] = from[length - 1 - length / 1080]; /* a byte of the last row from the row before */
+    if (mutant(24) && refusal == 31 && room > 0 && length > 0)
+        to[0] = from[0]; /* a refused buffer is changed */
+    return refusal;
+}
+
+uint32_t ferghulta_to_progressive(const uint8_t *from, size_t length, uint8_t *to, size_t room)
+{
+    if (mutant(25))
+        return right_ferghulta_to_segmented(from, length, to, room); /* both ways alike */
+    return mutant(26) && length == 0 && room == 0 ? 0 : right_ferghulta_to_progressive(from, length, to, room);
 }

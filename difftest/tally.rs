@@ -1,7 +1,7 @@
 //! What was compared, by the exact program's refusals, and the first difference.
 
-/// The refusals' numbers end at 24.
-const NUMBERS: usize = 25;
+/// The refusals' numbers end at 31.
+const NUMBERS: usize = 32;
 
 pub struct Tally {
     name: &'static str,

@@ -139,12 +139,36 @@ static void rows_in_any_order(void) {
     expect("closed in place", joined.phase, FERGHULTA_CLOSED);
 }
 
+/* Rows of 3 bytes, of which each has its active line: by total line, and back. */
+static void segments(void) {
+    enum { LINES = FERGHULTA_SEGMENTED_LINES };
+    static uint8_t progressive[LINES][3], segmented[LINES][3], back[LINES][3];
+    for (int line = 1; line <= LINES; line++) {
+        progressive[line - 1][0] = (uint8_t)(line % 256);
+        progressive[line - 1][1] = (uint8_t)(line / 256);
+    }
+    const size_t length = sizeof progressive;
+    expect("to segmented", ferghulta_to_segmented(progressive[0], length, segmented[0], length), 0);
+    unsigned in_place = 0;
+    for (int place = 0; place < LINES; place++) {
+        const int total = place < LINES / 2 ? 21 + place : 584 + place - LINES / 2;
+        const int line = segmented[place][0] + 256 * segmented[place][1];
+        in_place += (line % 2 ? 21 + (line - 1) / 2 : 584 + (line - 2) / 2) == total;
+    }
+    expect("rows by total line", in_place, LINES);
+    expect("to progressive", ferghulta_to_progressive(segmented[0], length, back[0], length), 0);
+    expect("the same rows", memcmp(progressive, back, length) == 0, 1);
+    expect("a byte too few", ferghulta_to_segmented(progressive[0], length, segmented[0], length - 1), 31);
+    expect("no rows", ferghulta_to_progressive(segmented[0], 0, back[0], 0), 31);
+    expect("1079 rows", ferghulta_to_progressive(segmented[0], 1079, back[0], 1079), 31);
+}
+
 /* Each number of the list has words of its own, and no other number has words of the list. */
 static void refusal_texts(void) {
     unsigned listed = 0;
     for (uint32_t number = 1; number < 256; number++)
         listed += strcmp(ferghulta_refusal_text(number), ferghulta_refusal_text(256)) != 0;
-    expect("refusals with words", listed, 15);
+    expect("refusals with words", listed, 16);
     expect("accepted in words", strcmp(ferghulta_refusal_text(FERGHULTA_ACCEPTED), "accepted") == 0, 1);
 }
 
@@ -162,6 +186,7 @@ int main(void) {
     widths();
     listing();
     rows_in_any_order();
+    segments();
     refusal_texts();
     version();
     printf("bench values: %u tried, %u wrong\n", tried, wrong);

@@ -4,8 +4,8 @@
 
 use core::fmt;
 
-/// The version of the header that this file follows, as one number: 10100 is 1.1.0.
-pub const VERSION: u32 = 10100;
+/// The version of the header that this file follows, as one number: 10200 is 1.2.0.
+pub const VERSION: u32 = 10200;
 
 /// The version of the archive that the program is linked with.
 #[must_use]
@@ -42,9 +42,10 @@ pub enum Refusal {
     NotOpen = 22,
     AllRows = 23,
     RowsMissing = 24,
+    Length = 31,
 }
 
-const REFUSALS: [(Refusal, &str); 15] = [
+const REFUSALS: [(Refusal, &str); 16] = [
     (Refusal::System, "system not 1 to 4"),
     (Refusal::Width, "width not 1 to 7680"),
     (Refusal::Height, "height not 1 to 4320"),
@@ -60,6 +61,7 @@ const REFUSALS: [(Refusal, &str); 15] = [
     (Refusal::NotOpen, "row or close while not open"),
     (Refusal::AllRows, "row when all rows are accepted"),
     (Refusal::RowsMissing, "close with rows missing"),
+    (Refusal::Length, "buffer length 0, no multiple of 1080, or unlike the other's"),
 ];
 
 impl Refusal {
@@ -147,7 +149,7 @@ struct NumberedBlock {
     samples: u16,
 }
 
-// Every answer in C is its refusal and then its values.
+// An answer in C is its refusal and then its values, if it has any.
 #[repr(C)]
 struct Answer<T> {
     refusal: u32,
@@ -178,6 +180,8 @@ unsafe extern "C" {
     safe fn ferghulta_close(picture: Kept) -> Answer<Kept>;
     fn ferghulta_row(picture: Kept, lights: *const u16, count: usize, out: *mut u8, room: usize) -> Answer<Kept>;
     fn ferghulta_read_block(bytes: *const u8, length: usize, codes: *mut u16, places: usize) -> Answer<NumberedBlock>;
+    fn ferghulta_to_segmented(progressive: *const u8, length: usize, segmented: *mut u8, room: usize) -> u32;
+    fn ferghulta_to_progressive(segmented: *const u8, length: usize, progressive: *mut u8, room: usize) -> u32;
 }
 
 impl System {
@@ -217,6 +221,22 @@ pub fn read_block(bytes: &[u8], codes: &mut [u16]) -> Result<Block, Refusal> {
     let answer = unsafe { ferghulta_read_block(bytes.as_ptr(), bytes.len(), codes.as_mut_ptr(), codes.len()) };
     let NumberedBlock { system, clipped, row, samples } = answer.result()?;
     Ok(Block { system: System::ALL[system as usize - 1], clipped, row, samples })
+}
+
+/// Writes the 1080 equally long rows of `progressive` to `segmented`, which is as long, in segmented-frame order.
+pub fn to_segmented(progressive: &[u8], segmented: &mut [u8]) -> Result<(), Refusal> {
+    let (from, to) = (progressive, segmented);
+    // SAFETY: both slices are lent for the call with their own lengths, and a slice's pointer is never null.
+    let refusal = unsafe { ferghulta_to_segmented(from.as_ptr(), from.len(), to.as_mut_ptr(), to.len()) };
+    Answer { refusal, values: () }.result()
+}
+
+/// Writes the rows of `segmented` to `progressive`, which is as long, from top to bottom again.
+pub fn to_progressive(segmented: &[u8], progressive: &mut [u8]) -> Result<(), Refusal> {
+    let (from, to) = (segmented, progressive);
+    // SAFETY: as above.
+    let refusal = unsafe { ferghulta_to_progressive(from.as_ptr(), from.len(), to.as_mut_ptr(), to.len()) };
+    Answer { refusal, values: () }.result()
 }
 
 /// A picture, changed by its own calls alone; a refused call leaves it as it was.

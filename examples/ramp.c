@@ -1,7 +1,9 @@
-/* In each system a picture is sent, rows of a ramp and of random light in turn, and read back. Then some calls that are
- * refused. `make example` builds and runs it; examples/ramp.rs is the same program in Rust. */
+/* In each system a picture is sent, rows of a ramp and of random light in turn, and read back. Then a picture in
+ * segmented-frame order, and some calls that are refused. `make example` builds and runs it; examples/ramp.rs is the
+ * same program in Rust. */
 #include <stdio.h>
 #include <stdlib.h>
+#include <string.h>
 
 #include "ferghulta.h"
 
@@ -71,6 +73,29 @@ static void send_and_read(uint32_t system, const char *name) {
     printf("%-16s %9u %11u %14d %7u\n", name, rows, blocks, worst, clipped);
 }
 
+/* The blocks of 1080 rows in segmented order, and back. They move whole, so the row number in a block tells which row
+ * stands at a place. */
+static void segmented_order(void) {
+    enum { ROWS = FERGHULTA_SEGMENTED_LINES, BYTES = FERGHULTA_BLOCK_BYTES(1) };
+    static uint8_t sent[ROWS][BYTES], segmented[ROWS][BYTES], back[ROWS][BYTES];
+    static const unsigned places[] = {0, 1, 539, 540, 541, 1079};
+
+    ferghulta_picture picture = ferghulta_new();
+    must_accept(ferghulta_open_of(&picture, FERGHULTA_BT709_10, 1, ROWS));
+    while (picture.rows < picture.height)
+        must_accept(ferghulta_row_of(&picture, lights, 3, sent[picture.rows], BYTES));
+    must_accept(ferghulta_to_segmented(sent[0], sizeof sent, segmented[0], sizeof segmented));
+    must_accept(ferghulta_to_progressive(segmented[0], sizeof segmented, back[0], sizeof back));
+
+    printf("\nsegmented order, place and row:");
+    for (unsigned i = 0; i < sizeof places / sizeof *places; i++) {
+        ferghulta_block_answer read = ferghulta_read_block(segmented[places[i]], BYTES, codes, 3);
+        must_accept(read.refusal);
+        printf("%s %u %u", i == 0 ? "" : ",", places[i], (unsigned)read.row);
+    }
+    printf("\nback in progressive order: %s\n", memcmp(sent, back, sizeof sent) == 0 ? "as sent" : "not as sent");
+}
+
 static void show(const char *call, uint32_t refusal) {
     printf("%-32s %2u  %s\n", call, (unsigned)refusal, ferghulta_refusal_text(refusal));
 }
@@ -88,6 +113,7 @@ static void refusals(void) {
     show("a block without its last byte", ferghulta_read_block(block, sizeof block - 1, codes, LIGHTS).refusal);
     block[5] = 255; /* the first Y' word, after system, row number and count, becomes a timing code */
     show("a block with a timing code", ferghulta_read_block(block, sizeof block, codes, LIGHTS).refusal);
+    show("1079 rows of a byte", ferghulta_to_segmented(block, 1079, block + 1079, 1079));
 }
 
 int main(void) {
@@ -96,6 +122,7 @@ int main(void) {
     printf("%-16s %9s %11s %14s %7s\n", "system", "rows sent", "blocks read", "worst distance", "clipped");
     for (uint32_t system = FERGHULTA_BT709_8; system <= FERGHULTA_BT2020_12; system++)
         send_and_read(system, names[system - 1]);
+    segmented_order();
     printf("\n%-32s %s\n", "refused call", "number and meaning");
     refusals();
     return EXIT_SUCCESS;

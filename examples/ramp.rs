@@ -1,5 +1,5 @@
 //! examples/ramp.c in Rust: the same calls, the same lines. `make example-rust` runs it and compares the two.
-use ferghulta::{read_block, version, Picture, Refusal, System, VERSION};
+use ferghulta::{read_block, to_progressive, to_segmented, version, Picture, Refusal, System, VERSION};
 
 const WIDTH: usize = 1920;
 const HEIGHT: usize = 32;
@@ -55,6 +55,31 @@ fn send_and_read(system: System, name: &str) -> Result<(), Refusal> {
     Ok(())
 }
 
+/// The blocks of 1080 rows in segmented order, and back; the row number in a block tells which row stands at a place.
+fn segmented_order() -> Result<(), Refusal> {
+    const ROWS: usize = 1080;
+    const BYTES: usize = 9 + 6;
+    let mut sent = [0; ROWS * BYTES];
+    let mut segmented = [0; ROWS * BYTES];
+    let mut back = [0; ROWS * BYTES];
+
+    let mut picture = Picture::new();
+    picture.open(System::Bt709Bits10, 1, ROWS as u32)?;
+    for block in sent.chunks_mut(BYTES) {
+        picture.row(&[0, 0, 0], block)?;
+    }
+    to_segmented(&sent, &mut segmented)?;
+    to_progressive(&segmented, &mut back)?;
+
+    let row_at = |place: usize| read_block(&segmented[BYTES * place..][..BYTES], &mut [0; 3]).map(|block| block.row);
+    print!("\nsegmented order, place and row:");
+    for (i, place) in [0, 1, 539, 540, 541, 1079].into_iter().enumerate() {
+        print!("{} {place} {}", if i == 0 { "" } else { "," }, row_at(place)?);
+    }
+    println!("\nback in progressive order: {}", if sent == back { "as sent" } else { "not as sent" });
+    Ok(())
+}
+
 fn show<T>(call: &str, result: Result<T, Refusal>) {
     match result {
         Ok(_) => println!("{call:<32}  0  accepted"),
@@ -80,6 +105,8 @@ fn refusals() -> Result<(), Refusal> {
     show("a block without its last byte", read_block(&block[..BYTES - 1], &mut codes));
     block[5] = 255; // the first Y' word, after system, row number and count, becomes a timing code
     show("a block with a timing code", read_block(&block, &mut codes));
+    let (rows, room) = block.split_at_mut(1079);
+    show("1079 rows of a byte", to_segmented(rows, &mut room[..1079]));
     Ok(())
 }
 
@@ -91,6 +118,7 @@ fn main() -> Result<(), Refusal> {
     for (system, name) in System::ALL.into_iter().zip(names) {
         send_and_read(system, name)?;
     }
+    segmented_order()?;
     println!("\n{:<32} number and meaning", "refused call");
     refusals()
 }

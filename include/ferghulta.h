@@ -27,11 +27,11 @@
 #include <stdint.h>
 
 #define FERGHULTA_VERSION_MAJOR 1
-#define FERGHULTA_VERSION_MINOR 1
+#define FERGHULTA_VERSION_MINOR 2
 #define FERGHULTA_VERSION_PATCH 0
-#define FERGHULTA_VERSION "1.1.0"
+#define FERGHULTA_VERSION "1.2.0"
 
-/* The version as one number to compare, in #if too: 10100 is 1.1.0. CHANGELOG.md says what a version promises. */
+/* The version as one number to compare, in #if too: 10200 is 1.2.0. CHANGELOG.md says what a version promises. */
 #define FERGHULTA_VERSION_NUMBER                                                                                       \
     (10000 * FERGHULTA_VERSION_MAJOR + 100 * FERGHULTA_VERSION_MINOR + FERGHULTA_VERSION_PATCH)
 
@@ -88,7 +88,8 @@ enum ferghulta_refusal {
     FERGHULTA_REFUSED_ALREADY_OPEN = 21, /* open while open */
     FERGHULTA_REFUSED_NOT_OPEN = 22,     /* row or close while not open */
     FERGHULTA_REFUSED_ALL_ROWS = 23,     /* row when all rows are accepted */
-    FERGHULTA_REFUSED_ROWS_MISSING = 24  /* close with rows missing */
+    FERGHULTA_REFUSED_ROWS_MISSING = 24, /* close with rows missing */
+    FERGHULTA_REFUSED_LENGTH = 31        /* buffer length 0, no multiple of 1080, or unlike the other's */
 };
 
 /* The same in words, for people; programs compare the number. */
@@ -110,6 +111,7 @@ FERGHULTA_MUST_USE static __inline const char *ferghulta_refusal_text(uint32_t r
     case FERGHULTA_REFUSED_NOT_OPEN: return "row or close while not open";
     case FERGHULTA_REFUSED_ALL_ROWS: return "row when all rows are accepted";
     case FERGHULTA_REFUSED_ROWS_MISSING: return "close with rows missing";
+    case FERGHULTA_REFUSED_LENGTH: return "buffer length 0, no multiple of 1080, or unlike the other's";
     default: return "not a refusal of this version";
     }
 }
@@ -270,6 +272,23 @@ FERGHULTA_MUST_USE FERGHULTA_NONNULL static __inline uint32_t ferghulta_close_of
     *picture = answer.picture;
     return answer.refusal;
 }
+
+/* ---- Segmented frames: 1080 equally long rows of bytes, whatever they hold, from one buffer to another. Active line a,
+ * 1 to 1080, is on total line 21 + (a - 1) / 2 if a is odd, and on 584 + (a - 2) / 2 if it is even; the segmented
+ * buffer has the rows in rising total line, so the odd lines and then the even ones. Each call undoes the other. They
+ * return the refusal: 31 where a length is 0, no multiple of 1080, or unlike the other; then nothing is written. */
+
+#define FERGHULTA_SEGMENTED_LINES 1080
+
+/* From top to bottom into segmented order. */
+FERGHULTA_MUST_USE FERGHULTA_NONNULL uint32_t ferghulta_to_segmented(const uint8_t *__restrict progressive,
+                                                                     size_t length, uint8_t *__restrict segmented,
+                                                                     size_t room);
+
+/* And back. */
+FERGHULTA_MUST_USE FERGHULTA_NONNULL uint32_t ferghulta_to_progressive(const uint8_t *__restrict segmented,
+                                                                       size_t length, uint8_t *__restrict progressive,
+                                                                       size_t room);
 
 #ifdef __cplusplus
 }

@@ -15,7 +15,7 @@ use Rattle.picture.specs.declared.Phase.the-variants.{Fresh, Open, Closed}
 use Rattle.picture.specs.declared.Picture.{Picture}
 use Rattle.picture.specs.Picture.{at, opening, rowing, bufferAfter, closing}
 use Rattle.check_records.specs.declared.tally.Tally.{Tally}
-use Rattle.check_records.specs.Records.{u16At, u32At, none, tallied, Compared}
+use Rattle.check_records.specs.Records.{u16At, u32At, beginAlike, none, tallied, Compared}
 use Rattle.check_pictures.specs.declared.call.Call.{Call}
 
 -- the numbers of the call at a place
@@ -114,14 +114,6 @@ readMet c lent due =
     cond (eqb (blockLength c) 0) true
     (cond (leb (blockLength c) (length lent))
     (cond (leb (3 * c .samples) 23040) (readInto c (take (blockLength c) lent) (take (3 * c .samples) (replicate 23040 0)) due) false) false)
-
--- the first n bytes of two buffers are there and the same
-unfoldable pub sameTo : List ℕ → List ℕ → ℕ → Bool
-sameTo a b zero = true
-sameTo a b (suc n) = sameTo a b n && eqb (getD a n 0) (getD b n 0)
-
-abbrev pub beginAlike : List ℕ → List ℕ → ℕ → Bool
-beginAlike a b n = leb n (length a) && leb n (length b) && sameTo a b n
 
 -- the picture after an answer: one that is refused stays
 abbrev pub after : Outcome Picture → Picture → Picture

@@ -3,11 +3,12 @@ ghost use mathlib.Core.Path.{_≡_};
 ghost use Prim.Native.Nat.{_≤_};
 ghost use lib.ListN.{length, replicate};
 ghost use Rattle.picture.specs.Picture.{pictureOutcome};
-ghost use Rattle.check_pictures.specs.Calls.{blockLength, rowsOf, after, expected, beginAlike, answered, met, completeAt, state, begun, afterCall, CallsCompared};
+ghost use Rattle.check_pictures.specs.Calls.{blockLength, rowsOf, after, expected, answered, met, completeAt, state, begun, afterCall, CallsCompared};
 use crate::call;
 use crate::call::Call;
 use crate::reading;
 use check_records::Tally;
+use check_records::begin_alike;
 use picture::Change;
 use picture::Phase;
 use picture::Picture;
@@ -143,25 +144,6 @@ fn is_answered(call: Call, answer: Change, picture: Picture) -> bool
     ensures { λ r. ⌜ r ≡ answered call (pictureOutcome answer) picture ⌝ }
 {
     call.has(answer) & (rows_of(picture) == call.rows)
-}
-
-// Whether as many bytes as there is room are the same.
-fn begin_alike(lent: &[u8], due: &[u8], room: usize) -> bool
-    ensures { λ r. ⌜ r ≡ beginAlike (now (lent .entry)) (now (due .entry)) room ⌝ }
-{
-    if room > lent.len() {
-        return false;
-    }
-    if room > due.len() {
-        return false;
-    }
-    let mut same = true;
-    let mut i = 0;
-    while i < room {
-        same = same & (lent[i] == due[i]);
-        i += 1;
-    }
-    same
 }
 
 fn rows_of(picture: Picture) -> u16

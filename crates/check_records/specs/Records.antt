@@ -2,9 +2,9 @@
 -- Definitions only.
 use Prim.Native.Nat.{ℕ, zero, suc, _+_, _*_, _-_, _/_, _%_, _^_, _≤_, _<_, min}
 use mathlib.Core.Path.{_≡_}
-use mathlib.Core.Bool.{Bool, true, false, cond}
+use mathlib.Core.Bool.{Bool, true, false, _&&_, cond}
 use mathlib.Core.List.{List}
-use lib.Dec.{eqb}
+use lib.Dec.{eqb, leb}
 use lib.ListN.{length, getD}
 use Rattle.check_records.specs.declared.tally.Tally.{Tally}
 
@@ -15,6 +15,14 @@ u16At bs i = getD bs i 0 + 256 * getD bs (i + 1) 0
 -- the 32-bit number at a place, low byte first
 abbrev pub u32At : List ℕ → ℕ → ℕ
 u32At bs i = u16At bs i + 65536 * u16At bs (i + 2)
+
+-- the first n bytes of two buffers are there and the same
+unfoldable pub sameTo : List ℕ → List ℕ → ℕ → Bool
+sameTo a b zero = true
+sameTo a b (suc n) = sameTo a b n && eqb (getD a n 0) (getD b n 0)
+
+abbrev pub beginAlike : List ℕ → List ℕ → ℕ → Bool
+beginAlike a b n = leb n (length a) && leb n (length b) && sameTo a b n
 
 -- one more than a count; the greatest count stays, so that none begins anew at 0
 abbrev pub more : ℕ → ℕ

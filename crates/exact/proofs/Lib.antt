@@ -7,3 +7,4 @@ pub mod Table
 pub mod Machine
 pub mod Difference
 pub mod Nearest
+pub mod Lending

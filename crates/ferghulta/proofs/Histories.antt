@@ -2,10 +2,11 @@
 -- Assumes nothing.
 use mathlib.Core.Path.{refl}
 use lib.ListN.{length}
+use Rattle.exact.proofs.Lending.{lend, lifetimes}
 use Rattle.block.specs.Read.{headerOf, sliceAfter}
 use Rattle.picture.specs.declared.Phase.the-variants.{Fresh}
 use Rattle.picture.specs.Picture.{at, opening, rowing, bufferAfter, closing}
-use Rattle.picture.proofs.Histories.{Answering, lend, lifetimes}
+use Rattle.picture.proofs.Histories.{Answering}
 use Rattle.ferghulta.specs.Answers.{blockAnswer}
 use Rattle.ferghulta.specs.Stored.{stored, pictureOf, pictureAnswer}
 use Rattle.ferghulta.proofs.Card.{by-open, by-row, by-close, by-read-block, card}

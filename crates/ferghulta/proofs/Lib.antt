@@ -2,4 +2,5 @@ pub mod Card
 pub mod Stored
 pub mod Exported
 pub mod Histories
+pub mod Segmented
 pub mod Theorem

@@ -1,4 +1,4 @@
--- The exported calls' own statements and the claims on lists of them, in one.
+-- The exported calls' own statements and the claims on lists of them and on moving rows, in one.
 -- Assumes nothing.
 use Prim.Native.Nat.{ℕ}
 use mathlib.Core.List.{List}
@@ -6,6 +6,7 @@ use Rattle.picture.specs.Book.{Call, Answer, fresh}
 use Rattle.picture.proofs.Calls.{Lent, Ran, History}
 use Rattle.picture.proofs.Claims.{Demanded}
 use Rattle.picture.proofs.Histories.{Lends, Happens, Answering, every-list-happens}
+use Rattle.segmented.proofs.Claims.{Claimed}
 use Rattle.ferghulta.specs.declared.stored_picture.StoredPicture.{StoredPicture}
 use Rattle.ferghulta.proofs.picture_calls.ferghulta_new.Statement as new-statement
 use Rattle.ferghulta.proofs.picture_calls.ferghulta_new.Met as new-met
@@ -17,9 +18,14 @@ use Rattle.ferghulta.proofs.picture_calls.ferghulta_close.Statement as 
 use Rattle.ferghulta.proofs.picture_calls.ferghulta_close.Met as close-met
 use Rattle.ferghulta.proofs.calls.ferghulta_read_block.Statement as read-statement
 use Rattle.ferghulta.proofs.calls.ferghulta_read_block.Met as read-met
+use Rattle.ferghulta.proofs.segmented_calls.ferghulta_to_segmented.Statement as to-segmented-statement
+use Rattle.ferghulta.proofs.segmented_calls.ferghulta_to_segmented.Met as to-segmented-met
+use Rattle.ferghulta.proofs.segmented_calls.ferghulta_to_progressive.Statement as to-progressive-statement
+use Rattle.ferghulta.proofs.segmented_calls.ferghulta_to_progressive.Met as to-progressive-met
 use Rattle.ferghulta.proofs.Card.{card}
 use Rattle.ferghulta.proofs.Exported.{stateAt, demand-3, from-any}
 use Rattle.ferghulta.proofs.Histories.{answering}
+use Rattle.ferghulta.proofs.Segmented.{Moves, moving}
 
 -- each `Post` of the card is that of a contract which the routine meets
 pub record Theorem : Type 3 where
@@ -34,6 +40,10 @@ pub record Theorem : Type 3 where
   -- it speaks of every list of calls, whatever the lent buffers hold, and of every reading
   pub happens : {cs : List Call} {bs : List (List ℕ)} → Lends cs bs → Happens card cs bs
   pub calls : Answering card
+  -- request 2026-01
+  pub segments : {M : Type 1} → to-segmented-statement.statement M
+  pub restores : {M : Type 1} → to-progressive-statement.statement M
+  pub moves : Claimed Moves
 
 pub theorem : Theorem
 theorem = record {
@@ -46,4 +56,7 @@ theorem = record {
   any = from-any;
   happens = every-list-happens answering;
   calls = answering;
+  segments = to-segmented-met.met;
+  restores = to-progressive-met.met;
+  moves = moving;
 }

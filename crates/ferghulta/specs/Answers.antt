@@ -53,3 +53,8 @@ decodedAnswer (refused n) = record { refusal = n; clipped = 0; codes = noCodes }
 abbrev pub blockAnswer : Outcome Header → BlockAnswer
 blockAnswer (accepted h) = record { refusal = 0; system = number (h .system); clipped = h .clips .total; row = h .row; samples = h .samples }
 blockAnswer (refused n) = record { refusal = n; system = 0; clipped = 0; row = 0; samples = 0 }
+
+-- an answer that has no other values is its refusal
+abbrev pub refusalAnswer : Outcome (Unit {0}) → ℕ
+refusalAnswer (accepted u) = 0
+refusalAnswer (refused n) = n

@@ -4,9 +4,8 @@ use Prim.Native.Nat.{ℕ}
 use mathlib.Core.Path.{_≡_, refl, ap}
 use mathlib.Core.List.{List, [], _∷_, map}
 use lib.ListN.{length}
-use contract.Lifetimes.{Lfts}
-use denote.Ref.{RefT}
 use Rattle.exact.specs.Outcome.{Outcome}
+use Rattle.exact.proofs.Lending.{lend, lifetimes}
 use Rattle.block.specs.Read.{sliceAfter}
 use Rattle.block.proofs.Answerable.{reading-answerable}
 use Rattle.picture.specs.declared.Phase.the-variants.{Fresh}
@@ -77,13 +76,6 @@ module _ {card : Card} (calls : Answering card) where
       record { ans = k .ans; ls = k .ls; q = k .q; history = record { start = calls .news .0; made = calls .news .1; ran = k .ran }; lent = k .lent }
 
 -- ---- this crate's card
-
--- a reference to l, and the lifetimes of two: where it lies and how long it is lent, no contract asks
-abbrev pub lend : List ℕ → RefT (List ℕ)
-lend l = record { ptr = (0, 0); name = 0; now = l }
-
-abbrev pub lifetimes : Lfts 2
-lifetimes = ([], ([], tt))
 
 pub answering : Answering card
 answering = record {

@@ -53,3 +53,4 @@ never-0 refusal.AlreadyOpen = refl
 never-0 refusal.NotOpen = refl
 never-0 refusal.AllRows = refl
 never-0 refusal.RowsMissing = refl
+never-0 refusal.Length = refl

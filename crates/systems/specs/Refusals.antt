@@ -2,7 +2,7 @@
 -- Definitions only.
 use Prim.Native.Nat.{ℕ}
 use Rattle.systems.specs.declared.refusal.Refusal.{Refusal}
-use Rattle.systems.specs.declared.refusal.Refusal.the-variants.{System, Width, Height, Lights, Output, Code, Signal, BlockEnd, Count, RowNumber, BytesAfter, AlreadyOpen, NotOpen, AllRows, RowsMissing}
+use Rattle.systems.specs.declared.refusal.Refusal.the-variants.{System, Width, Height, Lights, Output, Code, Signal, BlockEnd, Count, RowNumber, BytesAfter, AlreadyOpen, NotOpen, AllRows, RowsMissing, Length}
 
 abbrev pub refusal : Refusal → ℕ
 refusal System = 1
@@ -20,3 +20,4 @@ refusal AlreadyOpen = 21
 refusal NotOpen = 22
 refusal AllRows = 23
 refusal RowsMissing = 24
+refusal Length = 31

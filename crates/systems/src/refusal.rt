@@ -33,6 +33,8 @@ pub enum Refusal {
     AllRows,
     // 24: close with rows missing.
     RowsMissing,
+    // 31: a buffer's length 0, no multiple of 1080, or unlike the other's.
+    Length,
 }
 
 impl Refusal {
@@ -55,6 +57,7 @@ impl Refusal {
             Refusal::NotOpen => 22,
             Refusal::AllRows => 23,
             Refusal::RowsMissing => 24,
+            Refusal::Length => 31,
         }
     }
 }

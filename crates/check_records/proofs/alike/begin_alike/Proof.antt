@@ -4,15 +4,15 @@ use native.Mathlib.Numerals.{add-one}
 use native.Mathlib.Omega.{arith}
 use borrow.Author.Needs.{needs}
 use borrow.Author.Tests.{le-leb, lt-leb}
-use Rattle.check_pictures.specs.Calls.{sameTo}
-use Rattle.check_pictures.proofs.list.begin_alike.Statement.{statement}
-use Rattle.check_pictures.proofs.list.begin_alike.Tie as tie
+use Rattle.check_records.specs.Records.{sameTo}
+use Rattle.check_records.proofs.alike.begin_alike.Statement.{statement}
+use Rattle.check_records.proofs.alike.begin_alike.Tie as tie
 
 abbrev Inv-loop : tie.InvT-loop
-Inv-loop lent due room same₀ i₀ same i = (same ≡ sameTo lent due i) × (i ≤ room)
+Inv-loop a b n same₀ i₀ same i = (same ≡ sameTo a b i) × (i ≤ n)
 
 abbrev μ-loop : tie.MeasureT-loop
-μ-loop lent due room same₀ i₀ same i = room - i
+μ-loop a b n same₀ i₀ same i = n - i
 
 returns : tie.Need-returns Inv-loop μ-loop
 returns c = simp (lt-leb _ _ (c .if1 .taken))
@@ -31,7 +31,7 @@ loop-again c = (rw (add-one, c .before .before .before .loop .inv .0), search ne
 returns-3 : tie.Need-returns-3 Inv-loop μ-loop
 returns-3 c =
     let l = c .before .loop in
-    let e : l .i ≡ c .before .before .before .before .args .room = omega (arith, l .inv .1, c .loop-test .left) in
+    let e : l .i ≡ c .before .before .before .before .args .n = omega (arith, l .inv .1, c .loop-test .left) in
     simp (le-leb _ _ (c .before .before .before .if1 .left), le-leb _ _ (c .before .before .if2 .left)) (rw (l .inv .0, e))
 
 pub begin-alike-spec : {M : Type 1} → statement M

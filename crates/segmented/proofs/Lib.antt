@@ -1,0 +1,7 @@
+pub mod Claims
+pub mod Lines
+pub mod Rows
+pub mod Loop
+pub mod Lengths
+pub mod Moving
+pub mod Theorem

@@ -224,7 +224,7 @@ static void time_segments(int rounds)
     for (size_t i = 0; i < sizeof ROW_BYTES / sizeof *ROW_BYTES; i++) {
         const struct set set = {"memory", ROW_BYTES[i], 1080, NOTHING};
         struct move moves[MOVES];
-        time_moves(ROW_BYTES[i], rounds, moves);
+        time_moves(ROW_BYTES[i], rounds / 4 + 1, moves); // most of a round is taking the buffers out of the caches
         for (int m = 0; m < MOVES; m++) {
             printf("%-12zu%-20s%10.2f\n", ROW_BYTES[i], moves[m].name, moves[m].milliseconds);
             put_csv("move", &set, 0, "move", moves[m].name, moves[m].milliseconds);

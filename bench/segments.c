@@ -1,5 +1,6 @@
 #include "segments.h"
 
+#include <emmintrin.h>
 #include <stdlib.h>
 #include <string.h>
 
@@ -32,7 +33,14 @@ static void copy(struct buffers b)
     memcpy(b.to, b.from, b.length);
 }
 
-// Both buffers together are longer than the caches near the processor, so that each turn meets bytes that are far away.
+// Takes a buffer out of every cache: a processor may have one that is longer than both buffers together.
+static void flush(const uint8_t *bytes, size_t length)
+{
+    for (size_t at = 0; at < length; at += ALIGN)
+        _mm_clflush(bytes + at);
+    _mm_mfence();
+}
+
 void time_moves(size_t bytes, int rounds, struct move moves[MOVES])
 {
     static const struct {
@@ -48,6 +56,8 @@ void time_moves(size_t bytes, int rounds, struct move moves[MOVES])
         moves[m] = (struct move){OF[m].name, 1e18};
     for (int round = 0; round < rounds; round++)
         for (int m = 0; m < MOVES; m++) {
+            flush(b.from, b.length);
+            flush(b.to, b.length);
             double start = now();
             OF[m].run(b);
             double each = (now() - start) / 1e6;

@@ -49,7 +49,7 @@ fn both(effort: &Effort, random: &mut Pseudorandom, name: &'static str, call: Ca
         compare(&mut tally, call, exact, LINES * bytes, LINES * bytes - 1, random);
         compare(&mut tally, call, exact, LINES * bytes + 1, LINES * bytes, random);
     }
-    for _ in 0..effort.cases / 1000 {
+    for _ in 0..effort.cases / 100 {
         let (from, to) = any_lengths(random);
         compare(&mut tally, call, exact, from, to, random);
     }

@@ -7,10 +7,12 @@
 
 static uint16_t words[3];
 static uint8_t bytes[FERGHULTA_BLOCK_BYTES(1)];
+static uint8_t rows[2][FERGHULTA_SEGMENTED_LINES];
 
 ferghulta_picture sent(ferghulta_picture picture);
 uint32_t sent_of(ferghulta_picture *picture);
 uint32_t block_read(void);
+uint32_t segmented(void);
 
 ferghulta_picture sent(ferghulta_picture picture) {
 #if MISUSE == 2
@@ -36,4 +38,11 @@ uint32_t block_read(void) {
 #else
     return ferghulta_read_block(bytes, sizeof bytes, words, 3).refusal;
 #endif
+}
+
+uint32_t segmented(void) {
+#if MISUSE == 6
+    ferghulta_to_segmented(rows[0], sizeof rows[0], rows[1], sizeof rows[1]); /* the refusal is dropped */
+#endif
+    return ferghulta_to_progressive(rows[1], sizeof rows[1], rows[0], sizeof rows[0]);
 }

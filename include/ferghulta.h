@@ -273,10 +273,11 @@ FERGHULTA_MUST_USE FERGHULTA_NONNULL static __inline uint32_t ferghulta_close_of
     return answer.refusal;
 }
 
-/* ---- Segmented frames: 1080 equally long rows of bytes, whatever they hold, from one buffer to another. Active line a,
- * 1 to 1080, is on total line 21 + (a - 1) / 2 if a is odd, and on 584 + (a - 2) / 2 if it is even; the segmented
- * buffer has the rows in rising total line, so the odd lines and then the even ones. Each call undoes the other. They
- * return the refusal: 31 where a length is 0, no multiple of 1080, or unlike the other; then nothing is written. */
+/* ---- Segmented frames: the 1080 equally long rows of a progressive picture, whatever bytes they are (its row blocks,
+ * say), from one buffer to another. Active line a, 1 to 1080, is on total line 21 + (a - 1) / 2 if a is odd, and on
+ * 584 + (a - 2) / 2 if it is even; the segmented buffer has the rows in rising total line, the odd lines and then the
+ * even ones. Each call undoes the other. Both return the refusal itself: 31 where a length is 0, no multiple of 1080,
+ * or unlike the other; then nothing is written. */
 
 #define FERGHULTA_SEGMENTED_LINES 1080
 

@@ -10,6 +10,8 @@ use Rattle.exact.specs.Outcome.{Outcome}
 use Rattle.exact.specs.Outcome as outcome
 use Rattle.picture.specs.Book.{Answer, accepted, refused}
 use Rattle.picture.proofs.Calls.{Label, Card}
+use Rattle.segmented.specs.declared.Order.{Order}
+use Rattle.segmented.specs.declared.Order.the-variants.{Segmented, Progressive}
 use Rattle.ferghulta.specs.declared.calls.BlockAnswer.{BlockAnswer}
 use Rattle.ferghulta.specs.declared.stored_picture.StoredPicture.{StoredPicture}
 use Rattle.ferghulta.specs.declared.picture_calls.PictureAnswer.{PictureAnswer}
@@ -18,6 +20,8 @@ use Rattle.ferghulta.proofs.picture_calls.ferghulta_open.Reads as open-
 use Rattle.ferghulta.proofs.picture_calls.ferghulta_row.Reads as row-call
 use Rattle.ferghulta.proofs.picture_calls.ferghulta_close.Reads as close-call
 use Rattle.ferghulta.proofs.calls.ferghulta_read_block.Reads as read-call
+use Rattle.ferghulta.proofs.segmented_calls.ferghulta_to_segmented.Reads as to-segmented
+use Rattle.ferghulta.proofs.segmented_calls.ferghulta_to_progressive.Reads as to-progressive
 
 -- what the caller hears: refusal 0 is accepted
 abbrev pub answerIf : Bool → ℕ → Answer
@@ -53,3 +57,16 @@ pub data Reads : List ℕ → List ℕ → Outcome Label → List ℕ → Type 0
 
 abbrev pub card : Card
 card = record { Picture = StoredPicture; New = λ k. new-call.Post tt tt k tt; Open = Opens; Row = Rows; Close = Closes; Read = Reads }
+
+-- ---- moving rows: the refusal alone is answered
+
+abbrev pub outcomeIf : Bool → ℕ → Outcome (Unit {0})
+outcomeIf true n = outcome.accepted tt
+outcomeIf false n = outcome.refused n
+
+abbrev pub outcomeBy : ℕ → Outcome (Unit {0})
+outcomeBy n = outcomeIf (eqb n 0) n
+
+pub data Moves : Order → List ℕ → List ℕ → Outcome (Unit {0}) → List ℕ → Type 0 where
+  by-to-segmented : (κs : Lfts 2) (bs out bs′ out′ : RefT (List ℕ)) (n : ℕ) → to-segmented.Post κs (bs, (out, tt)) n (bs′, (out′, tt)) → Moves Segmented (now bs) (now out) (outcomeBy n) (now out′)
+  by-to-progressive : (κs : Lfts 2) (bs out bs′ out′ : RefT (List ℕ)) (n : ℕ) → to-progressive.Post κs (bs, (out, tt)) n (bs′, (out′, tt)) → Moves Progressive (now bs) (now out) (outcomeBy n) (now out′)

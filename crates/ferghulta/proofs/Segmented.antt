@@ -1,14 +1,12 @@
--- What is claimed of moving rows, through the C interface: of the exported functions' own contracts (their generated `Post`).
+-- What is claimed of moving rows, of the exported functions.
 -- Assumes nothing.
 use Prim.Native.Nat.{ℕ}
 use mathlib.Core.Path.{_≡_, refl, ap, _∙_}
-use mathlib.Core.Bool.{Bool, true, false}
+use mathlib.Core.Bool.{Bool}
 use mathlib.Core.List.{List}
 use lib.ListN.{length}
-use lib.Dec.{eqb}
-use contract.Lifetimes.{Lfts}
-use denote.Ref.{RefT, now}
-use Rattle.exact.specs.Outcome.{Outcome, accepted, refused}
+use denote.Ref.{now}
+use Rattle.exact.specs.Outcome.{Outcome}
 use Rattle.exact.proofs.Lending.{lend, lifetimes}
 use Rattle.systems.specs.Refusals.{refusal}
 use Rattle.systems.proofs.Answerable.{Answerable, values, refusing, never-0}
@@ -18,21 +16,7 @@ use Rattle.segmented.specs.Segmented.{moveOutcome, bufferAfter}
 use Rattle.segmented.proofs.Claims.{Claimed}
 use Rattle.segmented.proofs.Moving.{move-answerable, claimed}
 use Rattle.ferghulta.specs.Answers.{refusalAnswer}
-use Rattle.ferghulta.proofs.segmented_calls.ferghulta_to_segmented.Reads as to-segmented
-use Rattle.ferghulta.proofs.segmented_calls.ferghulta_to_progressive.Reads as to-progressive
-
--- what the caller hears: refusal 0 is accepted
-abbrev pub outcomeIf : Bool → ℕ → Outcome (Unit {0})
-outcomeIf true n = accepted tt
-outcomeIf false n = refused n
-
-abbrev pub outcomeBy : ℕ → Outcome (Unit {0})
-outcomeBy n = outcomeIf (eqb n 0) n
-
--- κs are the lifetimes of the two references, whatever they are
-pub data Moves : Order → List ℕ → List ℕ → Outcome (Unit {0}) → List ℕ → Type 0 where
-  by-to-segmented : (κs : Lfts 2) (bs out bs′ out′ : RefT (List ℕ)) (n : ℕ) → to-segmented.Post κs (bs, (out, tt)) n (bs′, (out′, tt)) → Moves Segmented (now bs) (now out) (outcomeBy n) (now out′)
-  by-to-progressive : (κs : Lfts 2) (bs out bs′ out′ : RefT (List ℕ)) (n : ℕ) → to-progressive.Post κs (bs, (out, tt)) n (bs′, (out′, tt)) → Moves Progressive (now bs) (now out) (outcomeBy n) (now out′)
+use Rattle.ferghulta.proofs.Card.{outcomeIf, outcomeBy, Moves, by-to-segmented, by-to-progressive}
 
 tells : {a : Outcome (Unit {0})} {n : ℕ} → Answerable a → n ≡ refusalAnswer a → outcomeBy n ≡ a
 tells (values u) e = ap outcomeBy e

@@ -22,10 +22,10 @@ use Rattle.ferghulta.proofs.segmented_calls.ferghulta_to_segmented.Stat
 use Rattle.ferghulta.proofs.segmented_calls.ferghulta_to_segmented.Met as to-segmented-met
 use Rattle.ferghulta.proofs.segmented_calls.ferghulta_to_progressive.Statement as to-progressive-statement
 use Rattle.ferghulta.proofs.segmented_calls.ferghulta_to_progressive.Met as to-progressive-met
-use Rattle.ferghulta.proofs.Card.{card}
+use Rattle.ferghulta.proofs.Card.{card, Moves}
 use Rattle.ferghulta.proofs.Exported.{stateAt, demand-3, from-any}
 use Rattle.ferghulta.proofs.Histories.{answering}
-use Rattle.ferghulta.proofs.Segmented.{Moves, moving}
+use Rattle.ferghulta.proofs.Segmented.{moving}
 
 -- each `Post` of the card is that of a contract which the routine meets
 pub record Theorem : Type 3 where

@@ -18,7 +18,7 @@ abbrev pub other : Order → Order
 other Segmented = Progressive
 other Progressive = Segmented
 
--- two buffers of 1080 rows of n bytes each, of which there is at least one
+-- two buffers of 1080 rows of n bytes, at least one each
 pub record Rows (n : ℕ) (bs out : List ℕ) : Type 0 where
   pub some : 1 ≤ n
   pub first : length bs ≡ n * 1080

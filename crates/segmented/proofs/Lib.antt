@@ -1,4 +1,5 @@
 pub mod Claims
+pub mod Card
 pub mod Lines
 pub mod Rows
 pub mod Loop

@@ -3,7 +3,7 @@
 use Prim.Native.Nat.{ℕ, suc, _+_, _*_, _-_, _<_, _≤_}
 use mathlib.Core.Path.{_≡_, refl, sym, ap, _∙_}
 use mathlib.Core.List.{List, [], _++_, append-nil, append-assoc}
-use native.Mathlib.Nat.{mul-le-mul-left}
+use native.Mathlib.Nat.{mul-zero, mul-suc, mul-le-mul-left}
 use native.Mathlib.Numerals.{add-one}
 use native.Mathlib.Omega.{arith}
 use lib.ListN.{length, take, drop, length-append, length-drop}
@@ -11,7 +11,7 @@ use lib.Seq.{length-take-le, take-length, drop-length, drop-drop, take-at, drop-
 use Rattle.segmented.specs.declared.Order.{Order}
 use Rattle.segmented.specs.Segmented.{source, byteRow, rowsBy}
 use Rattle.segmented.proofs.Lines.{source-below}
-use Rattle.segmented.proofs.Rows.{row-end, length-rows}
+use Rattle.segmented.proofs.Rows.{length-rows}
 
 -- n bytes from b on, copied over those from a on
 pub copied :
@@ -36,10 +36,7 @@ pub record SoFar (o : Order) (n : ℕ) (bs out : List ℕ) (k : ℕ) (d : List �
 
 pub none-yet : (o : Order) (n : ℕ) (bs out : List ℕ) → length bs ≡ n * 1080 → length out ≡ n * 1080 → SoFar o n bs out 0 out
 unfolding rowsBy
-none-yet o n bs out f g = record { first = f; second = g; within = omega arith; rows = ap (λ (k : ℕ). drop k out) (none n) }
-  where
-    none : (n : ℕ) → 0 ≡ n * 0
-    none n = omega arith
+none-yet o n bs out f g = record { first = f; second = g; within = omega arith; rows = ap (λ (k : ℕ). drop k out) (sym (mul-zero n)) }
 
 module _ {o : Order} {n : ℕ} {bs out : List ℕ} {k : ℕ} {d : List ℕ} (f : SoFar o n bs out k d) where
   long-front : length (rowsBy (source o) n bs k) ≡ n * k
@@ -55,7 +52,7 @@ module _ {o : Order} {n : ℕ} {bs out : List ℕ} {k : ℕ} {d : List ℕ} (f :
       let rest = drop (n * k) out in
       let before : take (n * k) (front ++ rest) ≡ front = take-at front rest (n * k) long-front in
       let behind : drop (n * k + n) (front ++ rest) ≡ drop (n * suc k) out =
-      ap (λ (j : ℕ). drop (j + n) (front ++ rest)) (sym long-front) ∙ drop-append-add front rest n ∙ drop-drop n (n * k) out ∙ ap (λ (j : ℕ). drop j out) (sym (row-end n k)) in
+      ap (λ (j : ℕ). drop (j + n) (front ++ rest)) (sym long-front) ∙ drop-append-add front rest n ∙ drop-drop n (n * k) out ∙ ap (λ (j : ℕ). drop j out) (sym (mul-suc n k)) in
       record {
         first = f .first;
         second = f .second;

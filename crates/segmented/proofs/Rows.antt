@@ -4,18 +4,15 @@ use Prim.Native.Nat.{ℕ, zero, suc, _+_, _*_, _-_, _<_, _≤_}
 use mathlib.Core.Path.{_≡_, refl, sym, ap, _∙_}
 use mathlib.Core.List.{List, _++_}
 use mathlib.Core.Logic.{_⊎_, inl, inr}
-use native.Mathlib.Nat.{mul-le-mul-left, mul-comm, suc-mul}
+use native.Mathlib.Nat.{mul-zero, mul-suc, mul-le-mul-left}
 use native.Mathlib.Omega.{arith}
 use lib.ListN.{length, take, drop, length-append, length-drop}
 use lib.Seq.{length-take-le, take-all, drop-at, drop-append-le, take-append-le, take-add}
 use Rattle.exact.proofs.Order.{below-or-not}
 use Rattle.segmented.specs.Segmented.{byteRow, rowsBy}
 
-pub row-end : (n s : ℕ) → n * suc s ≡ n * s + n
-row-end n s = mul-comm n (suc s) ∙ suc-mul s n ∙ ap (λ (k : ℕ). k + n) (mul-comm s n)
-
 pub row-fits : (n s m : ℕ) → s < m → n * s + n ≤ n * m
-row-fits n s m h = omega (arith, row-end n s, mul-le-mul-left n h)
+row-fits n s m h = omega (arith, mul-suc n s, mul-le-mul-left n h)
 
 module _ (from : ℕ → ℕ) (n : ℕ) (bs : List ℕ) (long : length bs ≡ n * 1080) (within : (k : ℕ) → k < 1080 → from k < 1080) where
   length-row : (k : ℕ) → k < 1080 → length (byteRow n bs (from k)) ≡ n
@@ -24,7 +21,7 @@ module _ (from : ℕ → ℕ) (n : ℕ) (bs : List ℕ) (long : length bs ≡ n 
   pub length-rows : (k : ℕ) → k ≤ 1080 → length (rowsBy from n bs k) ≡ n * k
   unfolding rowsBy
   length-rows zero h = omega arith
-  length-rows (suc k) h = simp length-append (omega (arith, length-rows k (omega arith), length-row k h, row-end n k))
+  length-rows (suc k) h = simp length-append (omega (arith, length-rows k (omega arith), length-row k h, mul-suc n k))
 
   -- row j of the rows in another order
   pub row-of-rows : (m j : ℕ) → m ≤ 1080 → j < m → byteRow n (rowsBy from n bs m) j ≡ byteRow n bs (from j)
@@ -59,13 +56,10 @@ module _ (from : ℕ → ℕ) (n : ℕ) (bs : List ℕ) (long : length bs ≡ n 
   -- rows in the order in which they stand
   in-place : (f : ℕ → ℕ) → ((k : ℕ) → k < 1080 → f k ≡ k) → (m : ℕ) → m ≤ 1080 → rowsBy f n bs m ≡ take (n * m) bs
   unfolding rowsBy
-  in-place f p zero h = ap (λ (k : ℕ). take k bs) (nothing n)
-    where
-      nothing : (n : ℕ) → 0 ≡ n * 0
-      nothing n = omega arith
+  in-place f p zero h = ap (λ (k : ℕ). take k bs) (sym (mul-zero n))
   in-place f p (suc m) h =
       (λ i. in-place f p m (omega arith) i ++ byteRow n bs (p m h i))
-      ∙ sym (take-add (n * m) n bs) ∙ ap (λ (k : ℕ). take k bs) (sym (row-end n m))
+      ∙ sym (take-add (n * m) n bs) ∙ ap (λ (k : ℕ). take k bs) (sym (mul-suc n m))
 
   pub undone : (back : ℕ → ℕ) → ((k : ℕ) → k < 1080 → back k < 1080) → ((k : ℕ) → k < 1080 → from (back k) ≡ k) → rowsBy back n (rowsBy from n bs 1080) 1080 ≡ bs
   undone back b p = through back b 1080 (omega arith) ∙ in-place (λ k. from (back k)) p 1080 (omega arith) ∙ take-all (n * 1080) bs (omega (arith, long))

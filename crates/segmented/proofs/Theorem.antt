@@ -1,10 +1,8 @@
--- The calls' own statements, and what is claimed of their own contracts (their generated `Post`), in one.
+-- The calls' own statements, and the claim of them, in one.
 -- Assumes nothing.
 use Prim.Native.Nat.{ℕ}
 use mathlib.Core.Path.{_≡_, refl}
 use mathlib.Core.List.{List}
-use contract.Lifetimes.{Lfts}
-use denote.Ref.{RefT, now}
 use lib.ListN.{length}
 use Rattle.exact.specs.Outcome.{Outcome}
 use Rattle.exact.proofs.Lending.{lend, lifetimes}
@@ -14,19 +12,13 @@ use Rattle.segmented.specs.declared.Moved.the-variants as answer
 use Rattle.segmented.specs.declared.Order.{Order}
 use Rattle.segmented.specs.declared.Order.the-variants.{Segmented, Progressive}
 use Rattle.segmented.specs.Segmented.{moveOutcome, bufferAfter, movedOutcome}
-use Rattle.segmented.proofs.to_segmented.Reads as to-segmented
 use Rattle.segmented.proofs.to_segmented.Statement as to-segmented-statement
 use Rattle.segmented.proofs.to_segmented.Met as to-segmented-met
-use Rattle.segmented.proofs.to_progressive.Reads as to-progressive
 use Rattle.segmented.proofs.to_progressive.Statement as to-progressive-statement
 use Rattle.segmented.proofs.to_progressive.Met as to-progressive-met
 use Rattle.segmented.proofs.Claims.{Claimed}
+use Rattle.segmented.proofs.Card.{Moves, by-to-segmented, by-to-progressive}
 use Rattle.segmented.proofs.Moving.{move-answerable, claimed}
-
--- κs are the lifetimes of the two references, whatever they are
-pub data Moves : Order → List ℕ → List ℕ → Outcome (Unit {0}) → List ℕ → Type 0 where
-  by-to-segmented : (κs : Lfts 2) (bs out bs′ out′ : RefT (List ℕ)) (r : Moved) → to-segmented.Post κs (bs, (out, tt)) r (bs′, (out′, tt)) → Moves Segmented (now bs) (now out) (movedOutcome r) (now out′)
-  by-to-progressive : (κs : Lfts 2) (bs out bs′ out′ : RefT (List ℕ)) (r : Moved) → to-progressive.Post κs (bs, (out, tt)) r (bs′, (out′, tt)) → Moves Progressive (now bs) (now out) (movedOutcome r) (now out′)
 
 follows : {o : Order} {bs out left : List ℕ} {a : Outcome (Unit {0})} → Moves o bs out a left → (a ≡ moveOutcome (length bs) (length out)) × (left ≡ bufferAfter o bs out)
 follows (by-to-segmented _ _ _ _ _ _ post) = post

@@ -16,7 +16,7 @@ use Rattle.segmented.specs.declared.Order.the-variants as order
 abbrev pub totalLine : ℕ → ℕ
 totalLine a = cond (eqb (a % 2) 1) (21 + (a - 1) / 2) (584 + (a - 2) / 2)
 
--- rows and places are counted from 0: row r is active line r + 1. The row at a place of the segmented order; `total-lines-rise` says that it is the order of total lines
+-- the row at a place of the segmented order, both counted from 0: row r is active line r + 1. That total lines rise along it is shown in proofs/Lines.antt
 abbrev pub rowAt : ℕ → ℕ
 rowAt p = cond (ltb p 540) (2 * p) (2 * (p - 540) + 1)
 
@@ -42,14 +42,15 @@ rowsBy from n bs (suc k) = rowsBy from n bs k ++ byteRow n bs (from k)
 abbrev pub reordered : Order → List ℕ → List ℕ
 reordered o bs = rowsBy (source o) (length bs / 1080) bs 1080
 
--- both lengths, which are alike, are not 0 and a multiple of 1080
+-- the lengths are alike, not 0, and a multiple of 1080
 abbrev pub canMove : ℕ → ℕ → Bool
 canMove from to = not (eqb from 0) && eqb (from % 1080) 0 && eqb from to
 
--- what a call comes to, 31 or nothing more to say, and the second buffer after it
+-- what a call comes to: 31, or nothing more to say
 abbrev pub moveOutcome : ℕ → ℕ → Outcome (Unit {0})
 moveOutcome from to = require (canMove from to) 31 (accepted tt)
 
+-- the second buffer after a call
 abbrev pub bufferAfter : Order → List ℕ → List ℕ → List ℕ
 bufferAfter o bs out = cond (canMove (length bs) (length out)) (reordered o bs) out
 

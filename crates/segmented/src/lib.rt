@@ -7,6 +7,7 @@ ghost use lib.ListN.{length, take, drop};
 ghost use Rattle.segmented.specs.declared.Order.the-variants.{Segmented, Progressive};
 ghost use Rattle.segmented.specs.Segmented.{source, byteRow, rowsBy, canMove, moveOutcome, bufferAfter, movedOutcome};
 
+// What came of moving rows.
 pub enum Moved {
     Done,
     Refused(Refusal),
@@ -47,7 +48,7 @@ fn reorder(order: Order, from: &[u8], to: &mut [u8]) -> Moved
     Moved::Done
 }
 
-// Whether both lengths are those of 1080 rows of at least one byte.
+// Whether the lengths are alike, not 0, and a multiple of 1080.
 fn can_move(from: usize, to: usize) -> bool
     ensures { λ r. ⌜ r ≡ canMove from to ⌝ }
 {
@@ -79,7 +80,7 @@ impl Order {
     }
 }
 
-// The row at a place of the segmented order: odd active lines first.
+// The row at a place of the segmented order: odd active lines, which are the rows 0, 2, 4, .., come first.
 fn row_at(place: usize) -> usize
     requires { ⌜ place < 1080 ⌝ }
     ensures { λ r. ⌜ (r ≡ source Segmented place) × (r < 1080) ⌝ }
@@ -103,6 +104,7 @@ fn place_of(row: usize) -> usize
     }
 }
 
+// One row of so many bytes to its place.
 fn move_row(bytes: usize, from: &[u8], source: usize, to: &mut [u8], place: usize)
     requires { ⌜ (bytes * source + bytes ≤ length (now from)) × (bytes * place + bytes ≤ length (now to)) ⌝ }
     ensures { λ r. ⌜ now (to .exit) ≡ take (bytes * place) (now (to .entry)) ++ (byteRow bytes (now (from .entry)) source ++ drop (bytes * place + bytes) (now (to .entry))) ⌝ }

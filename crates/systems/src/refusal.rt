@@ -33,7 +33,7 @@ pub enum Refusal {
     AllRows,
     // 24: close with rows missing.
     RowsMissing,
-    // 31: a buffer's length 0, no multiple of 1080, or unlike the other's.
+    // 31 (request 2026-01): a buffer's length 0, no multiple of 1080, or unlike the other's.
     Length,
 }
 

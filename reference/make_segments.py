@@ -2,9 +2,8 @@
 
 All numbers are unsigned, low byte first. The same bytes come at every run.
 
-- cases: for each case 0 for to segmented or 1 for to progressive and the refusal or 0 (2 bytes each), the lengths of the first
-  buffer and of the second (4 bytes each); then the first buffer's bytes, and those of the second after the call, which was
-  filled with 171.
+- cases: for each case 0 for to segmented or 1 for to progressive, the refusal or 0, and the lengths of the first buffer and of
+  the second (4 bytes each); then the first buffer's bytes, and those of the second after the call, which was filled with 171.
 """
 
 from pathlib import Path
@@ -33,7 +32,7 @@ def lengths():
 def record(way, given, target):
     after = WAYS[way](given, target)
     refusal, due = (after, FILLED * target) if isinstance(after, int) else (0, after)
-    return pack("<2H2I", way, refusal, len(given), target) + given + due
+    return pack("<4I", way, refusal, len(given), target) + given + due
 
 
 def records(random):

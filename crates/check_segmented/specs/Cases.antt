@@ -9,16 +9,16 @@ use Rattle.segmented.specs.declared.Order.{Order}
 use Rattle.segmented.specs.declared.Order.the-variants.{Segmented, Progressive}
 use Rattle.segmented.specs.Segmented.{moveOutcome, bufferAfter}
 use Rattle.check_records.specs.declared.tally.Tally.{Tally}
-use Rattle.check_records.specs.Records.{u16At, u32At, beginAlike, none, tallied, Compared}
+use Rattle.check_records.specs.Records.{u32At, beginAlike, none, tallied, Compared}
 use Rattle.check_segmented.specs.declared.cases.Case.{Case}
 
 -- the numbers of the case at a place
 abbrev pub caseAt : List ℕ → ℕ → Case
-caseAt bs i = record { way = u16At bs i; refusal = u16At bs (i + 2); from = u32At bs (i + 4); to = u32At bs (i + 8) }
+caseAt bs i = record { way = u32At bs i; refusal = u32At bs (i + 4); from = u32At bs (i + 8); to = u32At bs (i + 12) }
 
 -- the bytes of a case: the numbers and the two buffers
 abbrev pub sizeOf : Case → ℕ
-sizeOf c = 12 + c .from + c .to
+sizeOf c = 16 + c .from + c .to
 
 -- a case of this way in which this refusal is due, or for 0 one that is accepted
 abbrev pub isOf : Case → ℕ → ℕ → Bool
@@ -54,7 +54,7 @@ caseTallied c bs way refusal t = cond (isOf c way refusal) (tallied t (met c bs)
 
 -- the tally after the case at a place
 abbrev pub talliedAt : List ℕ → ℕ → ℕ → ℕ → Tally → Tally
-talliedAt bs way refusal at t = caseTallied (caseAt bs at) (take (sizeAt bs at - 12) (drop (at + 12) bs)) way refusal t
+talliedAt bs way refusal at t = caseTallied (caseAt bs at) (take (sizeAt bs at - 16) (drop (at + 16) bs)) way refusal t
 
 -- the tally of all cases
 abbrev pub CasesCompared : List ℕ → ℕ → ℕ → Tally → Type 0

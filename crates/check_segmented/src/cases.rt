@@ -6,20 +6,19 @@ ghost use Rattle.segmented.specs.Segmented.{moveOutcome, bufferAfter, movedOutc
 ghost use Rattle.check_segmented.specs.Cases.{caseAt, sizeOf, isOf, orderOf, agrees, moves, met, completeAt, caseTallied, CasesCompared};
 use check_records::Tally;
 use check_records::begin_alike;
-use check_records::u16_at;
 use check_records::u32_at;
 use segmented::Moved;
 
 // What stands before a case's buffers.
 struct Case {
-    way: u16,
+    way: u32,
     refusal: u32,
     from: u32,
     to: u32,
 }
 
 // Compares the cases of a way in which this refusal is due, or for 0 those that are accepted. A case that is cut off differs.
-pub fn compare(cases: &[u8], way: u16, refusal: u32) -> Tally
+pub fn compare(cases: &[u8], way: u32, refusal: u32) -> Tally
     ensures { λ r. ⌜ CasesCompared (now (cases .entry)) way refusal r ⌝ }
 {
     let mut tally = Tally::NONE;
@@ -27,7 +26,7 @@ pub fn compare(cases: &[u8], way: u16, refusal: u32) -> Tally
     while holds_case(cases, at) {
         let case = case_at(cases, at);
         let size = case.size();
-        tally = with_case(tally, case, &cases[at + 12..at + size], way, refusal);
+        tally = with_case(tally, case, &cases[at + 16..at + size], way, refusal);
         at += size;
     }
     tally.ended(cases.len() - at)
@@ -38,14 +37,14 @@ fn holds_case(cases: &[u8], at: usize) -> bool
     requires { ⌜ at ≤ length (now cases) ⌝ }
     ensures { λ r. ⌜ r ≡ completeAt (now (cases .entry)) at ⌝ }
 {
-    if cases.len() - at < 12 {
+    if cases.len() - at < 16 {
         return false;
     }
     at + case_at(cases, at).size() <= cases.len()
 }
 
 // A case counts where its way and its refusal are the ones in question.
-fn with_case(tally: Tally, case: Case, bytes: &[u8], way: u16, refusal: u32) -> Tally
+fn with_case(tally: Tally, case: Case, bytes: &[u8], way: u32, refusal: u32) -> Tally
     requires { ⌜ case .from ≤ length (now bytes) ⌝ }
     ensures { λ r. ⌜ r ≡ caseTallied case (now (bytes .entry)) way refusal tally ⌝ }
 {
@@ -57,21 +56,15 @@ fn with_case(tally: Tally, case: Case, bytes: &[u8], way: u16, refusal: u32) -> 
 }
 
 fn case_at(cases: &[u8], at: usize) -> Case
-    requires { ⌜ at + 12 ≤ length (now cases) ⌝ }
+    requires { ⌜ at + 16 ≤ length (now cases) ⌝ }
     ensures { λ r. ⌜ r ≡ caseAt (now (cases .entry)) at ⌝ }
 {
     Case {
-        way: u16_at(cases, at),
-        refusal: wide(u16_at(cases, at + 2)),
-        from: u32_at(cases, at + 4),
-        to: u32_at(cases, at + 8),
+        way: u32_at(cases, at),
+        refusal: u32_at(cases, at + 4),
+        from: u32_at(cases, at + 8),
+        to: u32_at(cases, at + 12),
     }
-}
-
-fn wide(x: u16) -> u32
-    ensures { λ r. ⌜ r ≡ x ⌝ }
-{
-    x as u32
 }
 
 // Moves the rows of the first buffer, which stands before the bytes that are due in the second.
@@ -96,7 +89,7 @@ fn moves(case: Case, from: &[u8], due: &[u8], lent: &mut [u8]) -> bool
     case.has(answer) & begin_alike(lent, due, lent.len())
 }
 
-fn moved(way: u16, from: &[u8], to: &mut [u8]) -> Moved
+fn moved(way: u32, from: &[u8], to: &mut [u8]) -> Moved
     ensures { λ r. ⌜ movedOutcome r ≡ moveOutcome (length (now (from .entry))) (length (now (to .entry))) ⌝ }
     ensures { λ r. ⌜ now (to .exit) ≡ bufferAfter (orderOf way) (now (from .entry)) (now (to .entry)) ⌝ }
 {
@@ -110,12 +103,12 @@ fn moved(way: u16, from: &[u8], to: &mut [u8]) -> Moved
 impl Case {
     // The bytes of the case: the numbers and the two buffers.
     fn size(self) -> usize
-        ensures { λ r. ⌜ (r ≡ sizeOf self) × (r ≤ 8589934602) ⌝ }
+        ensures { λ r. ⌜ (r ≡ sizeOf self) × (r ≤ 8589934606) ⌝ }
     {
-        12 + self.from as usize + self.to as usize
+        16 + self.from as usize + self.to as usize
     }
 
-    fn is_of(self, way: u16, refusal: u32) -> bool
+    fn is_of(self, way: u32, refusal: u32) -> bool
         ensures { λ r. ⌜ r ≡ isOf self way refusal ⌝ }
     {
         (self.way == way) & (self.refusal == refusal)

@@ -64,7 +64,7 @@ loop-again : tie.Need-loop-again Inv-loop μ-loop
 loop-again c =
     let t = c .before .before in
     let l = t .before .before .before .before .loop in
-    let n : (l .at + t .size .result) - (l .at + 12) ≡ sizeAt (now (t .before .before .before .before .before .before .args .cases)) (l .at) - 12 = omega (arith, sized t) in
+    let n : (l .at + t .size .result) - (l .at + 16) ≡ sizeAt (now (t .before .before .before .before .before .before .args .cases)) (l .at) - 16 = omega (arith, sized t) in
     one-more (l .inv) _ (within t) (sized t) (rw (n, t .before .case-at .ensures) at (c .with-case .ensures))
 
 sub-ended : tie.Need-sub-ended Inv-loop μ-loop

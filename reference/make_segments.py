@@ -1,9 +1,9 @@
 """Makes crates/check_segmented/data/ from segments.py: python3 reference/make_segments.py
 
-All numbers are unsigned, low byte first. The same bytes come at every run.
+All numbers are unsigned, 4 bytes, low byte first. The same bytes come at every run.
 
-- cases: for each case 0 for to segmented or 1 for to progressive, the refusal or 0, and the lengths of the first buffer and of
-  the second (4 bytes each); then the first buffer's bytes, and those of the second after the call, which was filled with 171.
+- lengths: the lengths of two buffers, and the refusal or 0.
+- rows_N: 1080 rows of N bytes in progressive order, then the same rows in segmented order.
 """
 
 from pathlib import Path
@@ -11,17 +11,15 @@ from struct import pack
 
 import segments
 from pseudorandom import Random
-from segments import LINES, to_progressive, to_segmented
+from segments import LINES, row_length, to_progressive, to_segmented
 
 DATA = Path(__file__).resolve().parent.parent / "crates" / "check_segmented" / "data"
 
-FILLED = b"\xab"
-WAYS = (to_segmented, to_progressive)
 ROW_LENGTHS = (1, 2, 3, 5)
 
 
 def lengths():
-    """Lengths of the two buffers: alike, and each refused for its own reason and for several."""
+    """Lengths of two buffers: alike, and each refused for its own reason and for several."""
     for length in ROW_LENGTHS:
         yield LINES * length, LINES * length
     yield from ((0, 0), (0, LINES), (LINES, 0), (LINES, 2 * LINES), (2 * LINES, LINES))
@@ -29,22 +27,21 @@ def lengths():
         yield from ((length, length), (length, LINES), (LINES, length), (length, 0), (0, length))
 
 
-def record(way, given, target):
-    after = WAYS[way](given, target)
-    refusal, due = (after, FILLED * target) if isinstance(after, int) else (0, after)
-    return pack("<4I", way, refusal, len(given), target) + given + due
-
-
-def records(random):
-    for source, target in lengths():
-        for way in range(2):
-            yield record(way, bytes(random.below(256) for _ in range(source)), target)
+def rows(random, length):
+    progressive = bytes(random.below(256) for _ in range(LINES * length))
+    segmented = to_segmented(progressive, len(progressive))
+    assert to_progressive(segmented, len(segmented)) == progressive
+    return progressive + segmented
 
 
 def main():
     segments.check()
     DATA.mkdir(parents=True, exist_ok=True)
-    (DATA / "cases").write_bytes(b"".join(records(Random(1080_1125))))
+    records = (pack("<3I", source, target, row_length(source, target)[1] or 0) for source, target in lengths())
+    (DATA / "lengths").write_bytes(b"".join(records))
+    random = Random(1080_1125)
+    for length in ROW_LENGTHS:
+        (DATA / f"rows_{length}").write_bytes(rows(random, length))
 
 
 if __name__ == "__main__":

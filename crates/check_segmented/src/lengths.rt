@@ -4,6 +4,8 @@ ghost use Prim.Native.Nat.{_+_, _≤_};
 ghost use lib.ListN.{length};
 ghost use Rattle.check_records.specs.Records.{tallyOf};
 ghost use Rattle.check_segmented.specs.Cases.{caseAt, dueByte, lengthsMet, lengthsAt};
+use crate::moving::FILLED;
+use crate::moving::ROOM;
 use crate::moving::is_moved;
 use check_records::Tally;
 use check_records::u32_at;
@@ -45,8 +47,8 @@ impl Case {
     fn is_met(self, order: Order) -> bool
         ensures { λ r. ⌜ r ≡ lengthsMet order self ⌝ }
     {
-        let zeros = [0u8; 5400];
-        let due = [due_byte(self.refusal); 5400];
+        let zeros = [0u8; ROOM];
+        let due = [due_byte(self.refusal); ROOM];
         let from = self.from as usize;
         if from > zeros.len() {
             return false;
@@ -58,5 +60,5 @@ impl Case {
 fn due_byte(refusal: u32) -> u8
     ensures { λ r. ⌜ r ≡ dueByte refusal ⌝ }
 {
-    if refusal == 0 { 0 } else { 171 }
+    if refusal == 0 { 0 } else { FILLED }
 }

@@ -7,11 +7,16 @@ use check_records::begin_alike;
 use segmented::Moved;
 use segmented::Order;
 
+// The longest buffer, of 5 bytes a row, and what a buffer holds before a call.
+pub const ROOM: usize = 5400;
+
+pub const FILLED: u8 = 171;
+
 // Whether moving rows into a buffer of so many bytes gives what is due.
 pub fn is_moved(order: Order, refusal: u32, from: &[u8], due: &[u8], to: usize) -> bool
     ensures { λ r. ⌜ r ≡ moved order refusal (now (from .entry)) (now (due .entry)) to ⌝ }
 {
-    let mut lent = [171u8; 5400];
+    let mut lent = [FILLED; ROOM];
     if to > lent.len() {
         return false;
     }

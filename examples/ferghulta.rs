@@ -4,8 +4,8 @@
 
 use core::fmt;
 
-/// The version of the header that this file follows, as one number: 10200 is 1.2.0.
-pub const VERSION: u32 = 10200;
+/// The version of the header that this file follows, as one number: 10201 is 1.2.1.
+pub const VERSION: u32 = 10201;
 
 /// The version of the archive that the program is linked with.
 #[must_use]

@@ -28,10 +28,10 @@
 
 #define FERGHULTA_VERSION_MAJOR 1
 #define FERGHULTA_VERSION_MINOR 2
-#define FERGHULTA_VERSION_PATCH 0
-#define FERGHULTA_VERSION "1.2.0"
+#define FERGHULTA_VERSION_PATCH 1
+#define FERGHULTA_VERSION "1.2.1"
 
-/* The version as one number to compare, in #if too: 10200 is 1.2.0. CHANGELOG.md says what a version promises. */
+/* The version as one number to compare, in #if too: 10201 is 1.2.1. CHANGELOG.md says what a version promises. */
 #define FERGHULTA_VERSION_NUMBER                                                                                       \
     (10000 * FERGHULTA_VERSION_MAJOR + 100 * FERGHULTA_VERSION_MINOR + FERGHULTA_VERSION_PATCH)
 
@@ -117,7 +117,8 @@ FERGHULTA_MUST_USE static __inline const char *ferghulta_refusal_text(uint32_t r
 }
 
 /* ---- Light and code. A light k, 0 to 65535, means the linear light k / 65535. A call makes its depth's table anew, so
- * that one of these costs as much as about 15, 50 and 270 lights of a row at 8, 10 and 12 bits: send rows as rows. */
+ * that a code costs as much as about 15, 50 and 250 lights of a row at 8, 10 and 12 bits, and a span as much as 5, 15
+ * and 50: send rows as rows. */
 
 typedef struct ferghulta_code_answer {
     uint32_t refusal;

@@ -13,7 +13,7 @@ use lib.ListN.{length, getD}
 use Rattle.exact.proofs.Boolean.{all-three}
 use Rattle.exact.proofs.Order.{below-or-not}
 use Rattle.exact.proofs.Table.{every, at-entry}
-use Rattle.curve.specs.Inner.{Quantiser, Boundaries, Index, Ready}
+use Rattle.curve.specs.Inner.{Quantiser, Boundaries, Index}
 
 -- what the tests rest on: each code is the first or one of those above it, the codes rise with the light, and `reached k d`
 -- tests that light k's code is at least the first + d
@@ -40,7 +40,8 @@ module _ {q : Quantiser} {reached : ℕ → ℕ → Bool} (rule : Rule q reached
       go (inl l) = l
       go (inr l) = absurd (T-not (reached k d) t (rule .tests k d p m .0 l))
 
-  boundaries : (t : List ℕ) → length t ≡ q .above → T (every (boundary reached) 0 t) → Boundaries q t
+  -- a table that passes its test
+  pub boundaries : (t : List ℕ) → length t ≡ q .above → T (every (boundary reached) 0 t) → Boundaries q t
   unfolding boundary
   boundaries t size p = record {
     size = size;
@@ -95,10 +96,7 @@ module _ {q : Quantiser} {reached : ℕ → ℕ → Bool} (rule : Rule q reached
     to : q .code k ≤ q .first + n + 2
     to = omega (arith, high (below-or-not (n + 2) (q .above)), rule .rises k bucket-last (omega (arith, lt-div-mul-add {a = k} {b = w} some)))
 
-  index : (w : ℕ) (x : List ℕ) → 0 < w → q .full < length x * w → T (every (bucket reached (q .above) w) 0 x) → Index q w x
-  index w x some size p = record { size = in-index w x some size p; room = room w x some size p; from = from w x some size p; to = to w x some size p }
-
-  -- a table and its index that pass their tests are ready
-  pub ready : (w : ℕ) (t x : List ℕ) → 0 < w → w ≤ q .full → length t ≡ q .above → T (every (boundary reached) 0 t)
-      → q .full < length x * w → T (every (bucket reached (q .above) w) 0 x) → Ready q w t x
-  ready w t x some width st pt sx px = record { width = width; boundaries = boundaries t st pt; index = index w x some sx px }
+  -- an index that passes its test
+  pub index : (w : ℕ) (x : List ℕ) → 0 < w → w ≤ q .full → q .full < length x * w → T (every (bucket reached (q .above) w) 0 x) → Index q w x
+  index w x some width size p =
+      record { width = width; size = in-index w x some size p; room = room w x some size p; from = from w x some size p; to = to w x some size p }

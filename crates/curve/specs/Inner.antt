@@ -5,6 +5,8 @@ use mathlib.Core.List.{List}
 use Prim.Native.Nat.{ℕ, suc, _+_, _*_, _/_, _^_, _≤_, _<_}
 use lib.ListN.{length, getD}
 use Rattle.systems.specs.declared.System.{System}
+use Rattle.systems.specs.declared.Depth.{Depth}
+use Rattle.systems.specs.Inner.{depth}
 use Rattle.systems.specs.Systems.{scale}
 use Rattle.curve.specs.Curve.{fullLight, code}
 
@@ -25,19 +27,27 @@ pub record Boundaries (q : Quantiser) (t : List ℕ) : Type 0 where
   pub from : (j k : ℕ) → j < length t → getD t j 0 ≤ k → q .first + suc j ≤ q .code k
   pub before : (j k : ℕ) → j < length t → k < getD t j 0 → q .code k < q .first + suc j
 
--- the index has an entry n for each bucket of w lights, and the bucket's codes run from the first + n to the first + n + 2
+-- the index has an entry n for each bucket of w lights, and the bucket's codes run from the first + n to the first + n + 2; a
+-- bucket is no wider than the lights
 pub record Index (q : Quantiser) (w : ℕ) (x : List ℕ) : Type 0 where
+  pub width : w ≤ q .full
   pub size : (k : ℕ) → k ≤ q .full → k / w < length x
   pub room : (k : ℕ) → k ≤ q .full → getD x (k / w) 0 + 2 ≤ q .above
   pub from : (k : ℕ) → k ≤ q .full → q .first + getD x (k / w) 0 ≤ q .code k
   pub to : (k : ℕ) → k ≤ q .full → q .code k ≤ q .first + getD x (k / w) 0 + 2
 
--- a table and its index, ready for the lookup of codes; a bucket is no wider than the lights
+-- a table and its index, ready for the lookup of codes
 pub record Ready (q : Quantiser) (w : ℕ) (t x : List ℕ) : Type 0 where
-  pub width : w ≤ q .full
   pub boundaries : Boundaries q t
   pub index : Index q w x
 
 -- ready for a system's codes, the light's bits above the lowest h being its place in the index
 abbrev pub ReadyFor : System → ℕ → List ℕ → List ℕ → Type 0
 ReadyFor y h t x = Ready (quantiserOf y) (2 ^ h) t x
+
+-- boundaries, and such an index, for every system of a depth
+abbrev pub BoundariesAt : Depth → List ℕ → Type 0
+BoundariesAt d t = (y : System) → depth y ≡ d → Boundaries (quantiserOf y) t
+
+abbrev pub IndexAt : Depth → ℕ → List ℕ → Type 0
+IndexAt d h x = (y : System) → depth y ≡ d → Index (quantiserOf y) (2 ^ h) x

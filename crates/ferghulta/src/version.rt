@@ -6,7 +6,7 @@ const MAJOR: u32 = 1;
 
 const MINOR: u32 = 2;
 
-const PATCH: u32 = 0;
+const PATCH: u32 = 1;
 
 #[no_mangle]
 pub extern "C" fn ferghulta_version() -> u32

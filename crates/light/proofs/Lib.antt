@@ -1,3 +1,2 @@
 pub mod Lit
 pub mod Spans
-pub mod Shared

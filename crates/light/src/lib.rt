@@ -1,11 +1,9 @@
 // The calls on lights (document 01, 'Light to code').
 use curve::code_in;
+use systems::Depth;
 use systems::Named;
 use systems::Refusal;
 use systems::System;
-use thresholds_8::EightBits;
-use thresholds_10::TenBits;
-use thresholds_12::TwelveBits;
 ghost use mathlib.Core.Path.{_≡_};
 ghost use mathlib.Core.List.{_∷_};
 ghost use Prim.Native.Nat.{_+_, _*_, _≤_};
@@ -58,21 +56,25 @@ pub fn span_of_code(system: u32, code: u16) -> CodeSpan
     }
 }
 
+// A depth has its table, and nothing else of its own.
 fn code_of(y: System, light: u16) -> usize
     ensures { λ r. ⌜ r ≡ code y light ⌝ }
 {
-    match y {
-        System::Bt709Bits8 => {
-            let t = EightBits::new();
-            code_in(y, &t.boundaries, &t.index, EightBits::SHIFT, light)
+    match y.depth() {
+        Depth::Bits8 => {
+            let boundaries = thresholds_8::boundaries();
+            let index = thresholds_8::index();
+            code_in(y, &boundaries, &index, thresholds_8::SHIFT, light)
         }
-        System::Bt709Bits10 | System::Bt2020Bits10 => {
-            let t = TenBits::new();
-            code_in(y, &t.boundaries, &t.index, TenBits::SHIFT, light)
+        Depth::Bits10 => {
+            let boundaries = thresholds_10::boundaries();
+            let index = thresholds_10::index();
+            code_in(y, &boundaries, &index, thresholds_10::SHIFT, light)
         }
-        System::Bt2020Bits12 => {
-            let t = TwelveBits::new();
-            code_in(y, &t.boundaries, &t.index, TwelveBits::SHIFT, light)
+        Depth::Bits12 => {
+            let boundaries = thresholds_12::boundaries();
+            let index = thresholds_12::index();
+            code_in(y, &boundaries, &index, thresholds_12::SHIFT, light)
         }
     }
 }
@@ -81,19 +83,10 @@ fn span_of(y: System, d: u16) -> Span
     requires { ⌜ (16 * scale y ≤ d) × (d ≤ 235 * scale y) ⌝ }
     ensures { λ r. ⌜ r ≡ span y d ⌝ }
 {
-    match y {
-        System::Bt709Bits8 => {
-            let t = EightBits::new();
-            span_in(y, &t.boundaries, d)
-        }
-        System::Bt709Bits10 | System::Bt2020Bits10 => {
-            let t = TenBits::new();
-            span_in(y, &t.boundaries, d)
-        }
-        System::Bt2020Bits12 => {
-            let t = TwelveBits::new();
-            span_in(y, &t.boundaries, d)
-        }
+    match y.depth() {
+        Depth::Bits8 => span_in(y, &thresholds_8::boundaries(), d),
+        Depth::Bits10 => span_in(y, &thresholds_10::boundaries(), d),
+        Depth::Bits12 => span_in(y, &thresholds_12::boundaries(), d),
     }
 }
 

@@ -154,8 +154,9 @@ impl Clips {
     }
 }
 
-// The words of one triple: an arm for each matrix makes its entries constants.
-fn words_in(y: System, c: [usize; 3]) -> Words
+// The words of one triple: an arm for each matrix makes its entries constants. The codes are as wide as a register, so that none
+// has to be widened.
+pub fn words_in(y: System, c: [usize; 3]) -> Words
     requires { ⌜ NominalCodes (scale y) (triple c) ⌝ }
     ensures { λ r. ⌜ r ≡ wordsAt (matrix y) (scale y) (triple c) ⌝ }
 {
@@ -165,9 +166,8 @@ fn words_in(y: System, c: [usize; 3]) -> Words
     }
 }
 
-// The words of the codes R, G and B by BT.709's matrix; its weights are known when the call is compiled. The codes are as wide as
-// a register, so that none has to be widened.
-pub fn words_709(y: System, c: [usize; 3]) -> Words
+// The codes' words by BT.709's matrix.
+fn words_709(y: System, c: [usize; 3]) -> Words
     requires { ⌜ NominalCodes (scale y) (triple c) ⌝ }
     ensures { λ r. ⌜ r ≡ wordsAt Bt709 (scale y) (triple c) ⌝ }
 {
@@ -175,7 +175,7 @@ pub fn words_709(y: System, c: [usize; 3]) -> Words
 }
 
 // The codes' words by BT.2020's matrix.
-pub fn words_2020(y: System, c: [usize; 3]) -> Words
+fn words_2020(y: System, c: [usize; 3]) -> Words
     requires { ⌜ NominalCodes (scale y) (triple c) ⌝ }
     ensures { λ r. ⌜ r ≡ wordsAt Bt2020 (scale y) (triple c) ⌝ }
 {

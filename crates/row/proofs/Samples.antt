@@ -1,4 +1,4 @@
--- What the stores of a head and of a sample make, and what a turn of either matrix's loop has in hand.
+-- What the stores of a head and of a sample make, and what a turn of the row's loop has in hand.
 -- Assumes nothing.
 use mathlib.Core.Path.{_≡_, refl, _∙_}
 use mathlib.Core.List.{List}
@@ -34,7 +34,7 @@ pub words-put : (w i : ℕ) (x : Words) (d d₁ d₂ d₃ : List ℕ)
 unfolding worded
 words-put w i x d d₁ d₂ d₃ e₁ e₂ e₃ = cc
 
--- after i turns of a row's loop, by either matrix: the words of the first i samples of n are stored
+-- after i turns of a row's loop: the words of the first i samples of n are stored
 pub record StoredTo (words : ℕ → Words) (w : ℕ) (d₀ : List ℕ) (n : ℕ) (d : List ℕ) (i : ℕ) : Type 0 where
   pub all : n ≡ w
   pub so-far : i ≤ n

@@ -9,18 +9,14 @@ use block::cr_word;
 use block::luma_word;
 use curve::code_in;
 use matrix::Words;
-use matrix::words_709;
-use matrix::words_2020;
+use matrix::words_in;
+use systems::Depth;
 use systems::System;
-use thresholds_8::EightBits;
-use thresholds_10::TenBits;
-use thresholds_12::TwelveBits;
 ghost use mathlib.Core.Path.{_≡_};
 ghost use mathlib.Core.List.{_++_};
 ghost use Prim.Native.Nat.{_+_, _*_, _<_, _≤_};
 ghost use lib.ListN.{length, drop, set};
-ghost use Rattle.systems.specs.declared.Matrix.the-variants.{Bt709, Bt2020};
-ghost use Rattle.systems.specs.Systems.{number, matrix};
+ghost use Rattle.systems.specs.Systems.{number};
 ghost use Rattle.curve.specs.Inner.{ReadyFor};
 ghost use Rattle.matrix.specs.Inner.{triple};
 ghost use Rattle.block.specs.Block.{size};
@@ -33,32 +29,30 @@ pub fn write_row(y: System, row: u16, width: u16, lights: &[u16], out: &mut [u8]
     ensures { λ r. ⌜ now (out .exit) ≡ rowBlock y row width (now (lights .entry)) ++ drop (size width) (now (out .entry)) ⌝ }
 {
     put_head(y, row, width, out);
-    match y {
-        System::Bt709Bits8 => {
-            let t = EightBits::new();
-            let shift = EightBits::SHIFT;
-            row_709(y, &t.boundaries, &t.index, shift, width, lights, out);
+    match y.depth() {
+        Depth::Bits8 => {
+            let boundaries = thresholds_8::boundaries();
+            let index = thresholds_8::index();
+            let shift = thresholds_8::SHIFT;
+            put_samples(y, &boundaries, &index, shift, width, lights, out);
         }
-        System::Bt709Bits10 => {
-            let t = TenBits::new();
-            let shift = TenBits::SHIFT;
-            row_709(y, &t.boundaries, &t.index, shift, width, lights, out);
+        Depth::Bits10 => {
+            let boundaries = thresholds_10::boundaries();
+            let index = thresholds_10::index();
+            let shift = thresholds_10::SHIFT;
+            put_samples(y, &boundaries, &index, shift, width, lights, out);
         }
-        System::Bt2020Bits10 => {
-            let t = TenBits::new();
-            let shift = TenBits::SHIFT;
-            row_2020(y, &t.boundaries, &t.index, shift, width, lights, out);
-        }
-        System::Bt2020Bits12 => {
-            let t = TwelveBits::new();
-            let shift = TwelveBits::SHIFT;
-            row_2020(y, &t.boundaries, &t.index, shift, width, lights, out);
+        Depth::Bits12 => {
+            let boundaries = thresholds_12::boundaries();
+            let index = thresholds_12::index();
+            let shift = thresholds_12::SHIFT;
+            put_samples(y, &boundaries, &index, shift, width, lights, out);
         }
     }
 }
 
-// Every sample by BT.709's matrix; a loop of its own for each matrix makes the weights constants.
-fn row_709<'a>(
+// Every sample of the row.
+fn put_samples<'a>(
     y: System,
     boundaries: &'a [u16],
     index: &'a [u16],
@@ -67,40 +61,19 @@ fn row_709<'a>(
     lights: &[u16],
     out: &mut [u8],
 )
-    requires { ⌜ (matrix y ≡ Bt709) × ReadyFor y shift (now boundaries) (now index) × RowFits width (now lights) (now out) ⌝ }
+    requires { ⌜ ReadyFor y shift (now boundaries) (now index) × RowFits width (now lights) (now out) ⌝ }
     ensures { λ r. ⌜ now (out .exit) ≡ stored (sampleWords y (now (lights .entry))) width (now (out .entry)) width ⌝ }
 {
     let n = width as usize;
     let mut i: usize = 0;
     while i < n {
-        put_sample_709(y, boundaries, index, shift, n, i, lights, out);
+        put_sample(y, boundaries, index, shift, n, i, lights, out);
         i += 1;
     }
 }
 
-// Every sample by BT.2020's matrix.
-fn row_2020<'a>(
-    y: System,
-    boundaries: &'a [u16],
-    index: &'a [u16],
-    shift: u32,
-    width: u16,
-    lights: &[u16],
-    out: &mut [u8],
-)
-    requires { ⌜ (matrix y ≡ Bt2020) × ReadyFor y shift (now boundaries) (now index) × RowFits width (now lights) (now out) ⌝ }
-    ensures { λ r. ⌜ now (out .exit) ≡ stored (sampleWords y (now (lights .entry))) width (now (out .entry)) width ⌝ }
-{
-    let n = width as usize;
-    let mut i: usize = 0;
-    while i < n {
-        put_sample_2020(y, boundaries, index, shift, n, i, lights, out);
-        i += 1;
-    }
-}
-
-// Sample i by BT.709's matrix.
-fn put_sample_709<'a>(
+// The words of sample i.
+fn put_sample<'a>(
     y: System,
     boundaries: &'a [u16],
     index: &'a [u16],
@@ -110,29 +83,11 @@ fn put_sample_709<'a>(
     lights: &[u16],
     out: &mut [u8],
 )
-    requires { ⌜ (matrix y ≡ Bt709) × ReadyFor y shift (now boundaries) (now index) × (i < width) × (width < 65536) × RowFits width (now lights) (now out) ⌝ }
+    requires { ⌜ ReadyFor y shift (now boundaries) (now index) × (i < width) × (width < 65536) × RowFits width (now lights) (now out) ⌝ }
     ensures { λ r. ⌜ now (out .exit) ≡ worded width i (sampleWords y (now (lights .entry)) i) (now (out .entry)) ⌝ }
 {
     let c = sample_codes(y, boundaries, index, shift, i, lights);
-    put_words(width, i, words_709(y, c), out);
-}
-
-// Sample i by BT.2020's matrix.
-fn put_sample_2020<'a>(
-    y: System,
-    boundaries: &'a [u16],
-    index: &'a [u16],
-    shift: u32,
-    width: usize,
-    i: usize,
-    lights: &[u16],
-    out: &mut [u8],
-)
-    requires { ⌜ (matrix y ≡ Bt2020) × ReadyFor y shift (now boundaries) (now index) × (i < width) × (width < 65536) × RowFits width (now lights) (now out) ⌝ }
-    ensures { λ r. ⌜ now (out .exit) ≡ worded width i (sampleWords y (now (lights .entry)) i) (now (out .entry)) ⌝ }
-{
-    let c = sample_codes(y, boundaries, index, shift, i, lights);
-    put_words(width, i, words_2020(y, c), out);
+    put_words(width, i, words_in(y, c), out);
 }
 
 // The codes of sample i's three lights.

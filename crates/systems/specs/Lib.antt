@@ -1,2 +1,3 @@
 pub mod Systems
 pub mod Refusals
+pub mod Inner

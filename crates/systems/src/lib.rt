@@ -5,12 +5,20 @@ mod refusal;
 pub use refusal::Refusal;
 ghost use mathlib.Core.Path.{_≡_};
 ghost use Rattle.systems.specs.Systems.{number, matrix, bits, scale, transfer, middle, nominal, nominalDifference, videoData, within, allWithin, kr, kg, kb, named, found};
+ghost use Rattle.systems.specs.Inner.{depth};
 ghost use lib.IntN.{pos};
 
 // A Recommendation's matrix.
 pub enum Matrix {
     Bt709,
     Bt2020,
+}
+
+// A bit depth.
+pub enum Depth {
+    Bits8,
+    Bits10,
+    Bits12,
 }
 
 // A Recommendation at a bit depth.
@@ -154,6 +162,18 @@ impl System {
             System::Bt709Bits10 => Matrix::Bt709,
             System::Bt2020Bits10 => Matrix::Bt2020,
             System::Bt2020Bits12 => Matrix::Bt2020,
+        }
+    }
+
+    // Systems of one depth have one table of boundary lights.
+    pub fn depth(self) -> Depth
+        ensures { λ r. ⌜ r ≡ depth self ⌝ }
+    {
+        match self {
+            System::Bt709Bits8 => Depth::Bits8,
+            System::Bt709Bits10 => Depth::Bits10,
+            System::Bt2020Bits10 => Depth::Bits10,
+            System::Bt2020Bits12 => Depth::Bits12,
         }
     }
 

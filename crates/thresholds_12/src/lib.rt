@@ -2,23 +2,20 @@
 // code'). The curve's rule is proved of every entry here, once; a caller makes the table once and lends it to each lookup.
 mod table;
 
-ghost use Rattle.systems.specs.declared.System.the-variants.{Bt2020Bits12};
-ghost use Rattle.curve.specs.Inner.{ReadyFor};
+ghost use Rattle.systems.specs.declared.Depth.the-variants.{Bits12};
+ghost use Rattle.curve.specs.Inner.{BoundariesAt, IndexAt};
 
-pub struct TwelveBits {
-    pub boundaries: [u16; 3504],
-    pub index: [u16; 8192],
+// A light shifted right by this has its place in the index.
+pub const SHIFT: u32 = 3;
+
+pub fn boundaries() -> [u16; 3504]
+    ensures { λ r. ⌜ BoundariesAt Bits12 r ⌝ }
+{
+    table::BOUNDARIES
 }
 
-impl TwelveBits {
-    // A light shifted right by this has its place in the index.
-    pub const SHIFT: u32 = 3;
-
-    pub fn new() -> TwelveBits
-        ensures { λ r. ⌜ ReadyFor Bt2020Bits12 3 (r .boundaries) (r .index) ⌝ }
-    {
-        let boundaries = table::BOUNDARIES;
-        let index = table::INDEX;
-        TwelveBits { boundaries, index }
-    }
+pub fn index() -> [u16; 8192]
+    ensures { λ r. ⌜ IndexAt Bits12 3 r ⌝ }
+{
+    table::INDEX
 }

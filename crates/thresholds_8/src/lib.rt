@@ -2,23 +2,20 @@
 // code'). The curve's rule is proved of every entry here, once; a caller makes the table once and lends it to each lookup.
 mod table;
 
-ghost use Rattle.systems.specs.declared.System.the-variants.{Bt709Bits8};
-ghost use Rattle.curve.specs.Inner.{ReadyFor};
+ghost use Rattle.systems.specs.declared.Depth.the-variants.{Bits8};
+ghost use Rattle.curve.specs.Inner.{BoundariesAt, IndexAt};
 
-pub struct EightBits {
-    pub boundaries: [u16; 219],
-    pub index: [u16; 512],
+// A light shifted right by this has its place in the index.
+pub const SHIFT: u32 = 7;
+
+pub fn boundaries() -> [u16; 219]
+    ensures { λ r. ⌜ BoundariesAt Bits8 r ⌝ }
+{
+    table::BOUNDARIES
 }
 
-impl EightBits {
-    // A light shifted right by this has its place in the index.
-    pub const SHIFT: u32 = 7;
-
-    pub fn new() -> EightBits
-        ensures { λ r. ⌜ ReadyFor Bt709Bits8 7 (r .boundaries) (r .index) ⌝ }
-    {
-        let boundaries = table::BOUNDARIES;
-        let index = table::INDEX;
-        EightBits { boundaries, index }
-    }
+pub fn index() -> [u16; 512]
+    ensures { λ r. ⌜ IndexAt Bits8 7 r ⌝ }
+{
+    table::INDEX
 }

@@ -37,7 +37,7 @@ module _ (c : lts.Start (nominal-reads.Asked, nominal-reads.Learnt, passed-reads
     where
       go : (c .args .shift < 16) ⊎ (16 ≤ c .args .shift) → c .args .shift < 16
       go (inl l) = l
-      go (inr l) = absurd (omega (arith, c .pre .width, pow-le-pow-right {n = 2} (omega arith) l))
+      go (inr l) = absurd (omega (arith, c .pre .index .width, pow-le-pow-right {n = 2} (omega arith) l))
 
   place-small : place ≤ 65535
   place-small = omega (arith, div-le-self k (2 ^ c .args .shift))

@@ -1,0 +1,17 @@
+-- The 10-bit index passes its test, which antt computes.
+-- Assumes nothing.
+use lib.Dec.{lit<, lit≤}
+use Rattle.systems.specs.declared.Depth.the-variants.{Bits10}
+use Rattle.curve.specs.Curve.{dark, reaches}
+use Rattle.curve.proofs.Curve.{onLine, atLeast}
+use Rattle.curve.proofs.Lights.{rule, systemAt, index-at}
+use Rattle.curve.proofs.Tests.{index, bucket}
+use Rattle.thresholds_10.proofs.index.Statement.{statement}
+use Rattle.thresholds_10.proofs.index.Tie as tie
+
+returns : tie.Need-returns
+unfolding bucket atLeast dark onLine reaches
+returns c = index-at Bits10 5 (index (rule (systemAt Bits10)) 32 _ (lit< tt) (lit≤ tt) (lit< tt) tt)
+
+pub index-spec : {M : Type 1} → statement M
+index-spec = tie.close (tie.spec returns)

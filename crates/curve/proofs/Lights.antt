@@ -1,18 +1,15 @@
 -- The codes of every light of the four systems: within nominal, rising, and the same in systems of one depth.
 -- Assumes nothing.
 use mathlib.Core.Path.{_≡_, refl, ap, subst⁻¹, _∙_}
-use mathlib.Core.Bool.{Bool}
+use mathlib.Core.Bool.{Bool, true, false}
 use mathlib.Core.List.{List}
 use Prim.Native.Nat.{ℕ, _*_, _^_, _≤_}
 use native.Mathlib.Omega.{arith}
-use lib.Dec.{lit<, lit≤}
+use lib.Dec.{eqb, lit<, lit≤}
 use Rattle.exact.specs.Whole.{INT}
 use Rattle.systems.specs.declared.System.{System}
 use Rattle.systems.specs.declared.System.the-variants.{Bt709Bits8, Bt709Bits10, Bt2020Bits10, Bt2020Bits12}
-use Rattle.systems.specs.declared.Depth.{Depth}
-use Rattle.systems.specs.declared.Depth.the-variants.{Bits8, Bits10, Bits12}
-use Rattle.systems.specs.Inner.{depth}
-use Rattle.systems.specs.Systems.{scale, transfer}
+use Rattle.systems.specs.Systems.{bits, scale, transfer}
 use Rattle.curve.specs.Curve.{linear, reaches, code, fullLight}
 use Rattle.curve.specs.Inner.{Quantiser, quantiserOf, Boundaries, Index, BoundariesAt, IndexAt}
 use Rattle.curve.proofs.Tests.{Rule}
@@ -51,26 +48,24 @@ module _ (y : System) where
   pub codes-rise : (k l : ℕ) → k ≤ l → code y k ≤ code y l
   codes-rise = rule y .rises
 
--- a system of each depth
-abbrev pub systemAt : Depth → System
-systemAt Bits8 = Bt709Bits8
-systemAt Bits10 = Bt709Bits10
-systemAt Bits12 = Bt2020Bits12
+-- a system of n bits
+abbrev pub systemAt : ℕ → System
+systemAt n = elim (eqb n 8) [ true ↦ Bt709Bits8 | false ↦ elim (eqb n 10) [ true ↦ Bt709Bits10 | false ↦ Bt2020Bits12 ] ]
 
--- depth alone decides scale, α and β, and so the codes
-by-depth : (y : System) → quantiserOf y ≡ quantiserOf (systemAt (depth y))
+-- the bits alone decide scale, α and β, and so the codes
+by-bits : (y : System) → quantiserOf y ≡ quantiserOf (systemAt (bits y))
 unfolding code
-by-depth Bt709Bits8 = refl
-by-depth Bt709Bits10 = refl
-by-depth Bt2020Bits10 = refl
-by-depth Bt2020Bits12 = refl
+by-bits Bt709Bits8 = refl
+by-bits Bt709Bits10 = refl
+by-bits Bt2020Bits10 = refl
+by-bits Bt2020Bits12 = refl
 
-same-curve : (d : Depth) (y : System) → depth y ≡ d → quantiserOf y ≡ quantiserOf (systemAt d)
-same-curve d y e = by-depth y ∙ ap (λ (z : Depth). quantiserOf (systemAt z)) e
+same-curve : (n : ℕ) (y : System) → bits y ≡ n → quantiserOf y ≡ quantiserOf (systemAt n)
+same-curve n y e = by-bits y ∙ ap (λ (m : ℕ). quantiserOf (systemAt m)) e
 
--- so one system's boundaries and index are those of every system of its depth
-pub boundaries-at : (d : Depth) {t : List ℕ} → Boundaries (quantiserOf (systemAt d)) t → BoundariesAt d t
-boundaries-at d {t} b y e = subst⁻¹ (λ (q : Quantiser). Boundaries q t) (same-curve d y e) b
+-- so one system's boundaries and index are those of every system of as many bits
+pub boundaries-at : (n : ℕ) {t : List ℕ} → Boundaries (quantiserOf (systemAt n)) t → BoundariesAt n t
+boundaries-at n {t} b y e = subst⁻¹ (λ (q : Quantiser). Boundaries q t) (same-curve n y e) b
 
-pub index-at : (d : Depth) (h : ℕ) {x : List ℕ} → Index (quantiserOf (systemAt d)) (2 ^ h) x → IndexAt d h x
-index-at d h {x} i y e = subst⁻¹ (λ (q : Quantiser). Index q (2 ^ h) x) (same-curve d y e) i
+pub index-at : (n h : ℕ) {x : List ℕ} → Index (quantiserOf (systemAt n)) (2 ^ h) x → IndexAt n h x
+index-at n h {x} i y e = subst⁻¹ (λ (q : Quantiser). Index q (2 ^ h) x) (same-curve n y e) i

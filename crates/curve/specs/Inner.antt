@@ -5,9 +5,7 @@ use mathlib.Core.List.{List}
 use Prim.Native.Nat.{ℕ, suc, _+_, _*_, _/_, _^_, _≤_, _<_}
 use lib.ListN.{length, getD}
 use Rattle.systems.specs.declared.System.{System}
-use Rattle.systems.specs.declared.Depth.{Depth}
-use Rattle.systems.specs.Inner.{depth}
-use Rattle.systems.specs.Systems.{scale}
+use Rattle.systems.specs.Systems.{bits, scale}
 use Rattle.curve.specs.Curve.{fullLight, code}
 
 -- the lights 0 to `full`, and each one's code: `first` or one of the `above` codes after it
@@ -45,9 +43,9 @@ pub record Ready (q : Quantiser) (w : ℕ) (t x : List ℕ) : Type 0 where
 abbrev pub ReadyFor : System → ℕ → List ℕ → List ℕ → Type 0
 ReadyFor y h t x = Ready (quantiserOf y) (2 ^ h) t x
 
--- boundaries, and such an index, for every system of a depth
-abbrev pub BoundariesAt : Depth → List ℕ → Type 0
-BoundariesAt d t = (y : System) → depth y ≡ d → Boundaries (quantiserOf y) t
+-- boundaries, and such an index, for every system of n bits
+abbrev pub BoundariesAt : ℕ → List ℕ → Type 0
+BoundariesAt n t = (y : System) → bits y ≡ n → Boundaries (quantiserOf y) t
 
-abbrev pub IndexAt : Depth → ℕ → List ℕ → Type 0
-IndexAt d h x = (y : System) → depth y ≡ d → Index (quantiserOf y) (2 ^ h) x
+abbrev pub IndexAt : ℕ → ℕ → List ℕ → Type 0
+IndexAt n h x = (y : System) → bits y ≡ n → Index (quantiserOf y) (2 ^ h) x

@@ -10,7 +10,6 @@ ghost use Prim.Native.Nat.{_+_, _*_, _^_, _≤_, _<_};
 ghost use lib.IntN.{pos, natAbs, _-ℤ_};
 ghost use lib.Signed.{_<ℤ_};
 ghost use Rattle.exact.specs.Signed.{rounded};
-ghost use Rattle.systems.specs.declared.Matrix.the-variants.{Bt709, Bt2020};
 ghost use Rattle.systems.specs.Systems.{matrix, scale};
 ghost use Rattle.matrix.specs.Triples.{encodedAt, worded, wordsAt, codesAt, wordsOfCodes, codesOfWords, wordsOutcome, codesOutcome, nominalWords, wordsWithin, _plus_, clipped, beyond};
 ghost use Rattle.matrix.specs.Inner.{triple, NominalCodes, TwelveBitCodes, TwelveBitWords, WordSized, Small, dotted, encodingRows, colourDifference, decodingRows, unclippedAt, fixed, fromFixed, InOrder};
@@ -154,32 +153,12 @@ impl Clips {
     }
 }
 
-// The words of one triple: an arm for each matrix makes its entries constants. The codes are as wide as a register, so that none
-// has to be widened.
+// The words of one triple. The codes are as wide as a register, so that none has to be widened.
 pub fn words_in(y: System, c: [usize; 3]) -> Words
     requires { ⌜ NominalCodes (scale y) (triple c) ⌝ }
     ensures { λ r. ⌜ r ≡ wordsAt (matrix y) (scale y) (triple c) ⌝ }
 {
-    match y.matrix() {
-        Matrix::Bt709 => words_709(y, c),
-        Matrix::Bt2020 => words_2020(y, c),
-    }
-}
-
-// The codes' words by BT.709's matrix.
-fn words_709(y: System, c: [usize; 3]) -> Words
-    requires { ⌜ NominalCodes (scale y) (triple c) ⌝ }
-    ensures { λ r. ⌜ r ≡ wordsAt Bt709 (scale y) (triple c) ⌝ }
-{
-    to_words(unlimited_by(Matrix::Bt709, y, c))
-}
-
-// The codes' words by BT.2020's matrix.
-fn words_2020(y: System, c: [usize; 3]) -> Words
-    requires { ⌜ NominalCodes (scale y) (triple c) ⌝ }
-    ensures { λ r. ⌜ r ≡ wordsAt Bt2020 (scale y) (triple c) ⌝ }
-{
-    to_words(unlimited_by(Matrix::Bt2020, y, c))
+    to_words(unlimited_in(y, c))
 }
 
 // Y', Cb and Cr as words.
@@ -191,6 +170,17 @@ fn to_words(v: Unlimited) -> Words
         y: v.y as u16,
         cb: v.cb as u16,
         cr: v.cr as u16,
+    }
+}
+
+// Y', Cb and Cr of one triple: an arm for each matrix makes its entries constants.
+fn unlimited_in(y: System, c: [usize; 3]) -> Unlimited
+    requires { ⌜ TwelveBitCodes (triple c) ⌝ }
+    ensures { λ r. ⌜ r ≡ encodedAt (matrix y) (scale y) (triple c) ⌝ }
+{
+    match y.matrix() {
+        Matrix::Bt709 => unlimited_by(Matrix::Bt709, y, c),
+        Matrix::Bt2020 => unlimited_by(Matrix::Bt2020, y, c),
     }
 }
 

@@ -5,7 +5,7 @@ mod refusal;
 pub use refusal::Refusal;
 ghost use mathlib.Core.Path.{_≡_};
 ghost use Rattle.systems.specs.Systems.{number, matrix, bits, scale, transfer, middle, nominal, nominalDifference, videoData, within, allWithin, kr, kg, kb, named, found};
-ghost use Rattle.systems.specs.Inner.{depth};
+ghost use Rattle.systems.specs.Inner.{bitsOf};
 ghost use lib.IntN.{pos};
 
 // A Recommendation's matrix.
@@ -130,6 +130,18 @@ impl Matrix {
     }
 }
 
+impl Depth {
+    pub fn bits(self) -> u32
+        ensures { λ r. ⌜ r ≡ bitsOf self ⌝ }
+    {
+        match self {
+            Depth::Bits8 => 8,
+            Depth::Bits10 => 10,
+            Depth::Bits12 => 12,
+        }
+    }
+}
+
 impl System {
     pub fn from_number(number: u32) -> Named
         ensures { λ r. ⌜ found r ≡ named number ⌝ }
@@ -167,7 +179,7 @@ impl System {
 
     // Systems of one depth have one table of boundary lights.
     pub fn depth(self) -> Depth
-        ensures { λ r. ⌜ r ≡ depth self ⌝ }
+        ensures { λ r. ⌜ bitsOf r ≡ bits self ⌝ }
     {
         match self {
             System::Bt709Bits8 => Depth::Bits8,
@@ -177,22 +189,11 @@ impl System {
         }
     }
 
-    pub fn bits(self) -> u32
-        ensures { λ r. ⌜ r ≡ bits self ⌝ }
-    {
-        match self {
-            System::Bt709Bits8 => 8,
-            System::Bt709Bits10 => 10,
-            System::Bt2020Bits10 => 10,
-            System::Bt2020Bits12 => 12,
-        }
-    }
-
     // Codes to one 8-bit code.
     pub fn scale(self) -> u16
         ensures { λ r. ⌜ r ≡ scale self ⌝ }
     {
-        1 << (self.bits() - 8)
+        1 << (self.depth().bits() - 8)
     }
 
     pub fn transfer(self) -> Transfer

@@ -2,20 +2,19 @@
 // code'). The curve's rule is proved of every entry here, once; a caller makes the table once and lends it to each lookup.
 mod table;
 
-ghost use Rattle.systems.specs.declared.Depth.the-variants.{Bits10};
 ghost use Rattle.curve.specs.Inner.{BoundariesAt, IndexAt};
 
 // A light shifted right by this has its place in the index.
 pub const SHIFT: u32 = 5;
 
 pub fn boundaries() -> [u16; 876]
-    ensures { λ r. ⌜ BoundariesAt Bits10 r ⌝ }
+    ensures { λ r. ⌜ BoundariesAt 10 r ⌝ }
 {
     table::BOUNDARIES
 }
 
 pub fn index() -> [u16; 2048]
-    ensures { λ r. ⌜ IndexAt Bits10 5 r ⌝ }
+    ensures { λ r. ⌜ IndexAt 10 5 r ⌝ }
 {
     table::INDEX
 }

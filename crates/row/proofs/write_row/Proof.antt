@@ -1,6 +1,7 @@
 -- `row::write_row` meets its contract: in each arm the head and then the samples are stored, and that makes the block.
 -- Assumes nothing.
-use mathlib.Core.Path.{sym, _∙_}
+use mathlib.Core.Path.{sym, ap, _∙_}
+use Rattle.systems.specs.Inner.{bitsOf}
 use Rattle.row.proofs.Written.{row-written}
 use borrow.Author.Needs.{needs}
 use Rattle.row.proofs.write_row.Statement.{statement}
@@ -10,21 +11,21 @@ put-samples-requires : tie.Need-put-samples-requires
 put-samples-requires c κs =
     let made = c .before .before .before in
     let arm = made .before .before in
-    let e = sym (arm .before .before .depth .ensures) ∙ arm .enum-told .given .1 in
+    let e = sym (arm .before .before .depth .ensures) ∙ ap bitsOf (arm .enum-told .given .1) in
     (record { boundaries = made .before .boundaries .ensures _ e; index = made .index .ensures _ e }, search needs)
 
 put-samples-requires-2 : tie.Need-put-samples-requires-2
 put-samples-requires-2 c κs =
     let made = c .before .before .before in
     let arm = made .before .before in
-    let e = sym (arm .before .before .depth .ensures) ∙ arm .enum-told2 .given .1 in
+    let e = sym (arm .before .before .depth .ensures) ∙ ap bitsOf (arm .enum-told2 .given .1) in
     (record { boundaries = made .before .boundaries3 .ensures _ e; index = made .index3 .ensures _ e }, search needs)
 
 put-samples-requires-3 : tie.Need-put-samples-requires-3
 put-samples-requires-3 c κs =
     let made = c .before .before .before in
     let arm = made .before .before in
-    let e = sym (arm .before .before .depth .ensures) ∙ arm .enum-told3 .given .1 in
+    let e = sym (arm .before .before .depth .ensures) ∙ ap bitsOf (arm .enum-told3 .given .1) in
     (record { boundaries = made .before .boundaries5 .ensures _ e; index = made .index5 .ensures _ e }, search needs)
 
 returns : tie.Need-returns

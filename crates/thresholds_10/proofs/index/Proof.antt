@@ -1,7 +1,6 @@
 -- The 10-bit index passes its test, which antt computes.
 -- Assumes nothing.
 use lib.Dec.{lit<, lit≤}
-use Rattle.systems.specs.declared.Depth.the-variants.{Bits10}
 use Rattle.curve.specs.Curve.{dark, reaches}
 use Rattle.curve.proofs.Curve.{onLine, atLeast}
 use Rattle.curve.proofs.Lights.{rule, systemAt, index-at}
@@ -11,7 +10,7 @@ use Rattle.thresholds_10.proofs.index.Tie as tie
 
 returns : tie.Need-returns
 unfolding bucket atLeast dark onLine reaches
-returns c = index-at Bits10 5 (index (rule (systemAt Bits10)) 32 _ (lit< tt) (lit≤ tt) (lit< tt) tt)
+returns c = index-at 10 5 (index (rule (systemAt 10)) 32 _ (lit< tt) (lit≤ tt) (lit< tt) tt)
 
 pub index-spec : {M : Type 1} → statement M
 index-spec = tie.close (tie.spec returns)

@@ -1,7 +1,6 @@
 -- The 8-bit table passes its test, which antt computes.
 -- Assumes nothing.
 use mathlib.Core.Path.{refl}
-use Rattle.systems.specs.declared.Depth.the-variants.{Bits8}
 use Rattle.curve.specs.Curve.{dark, reaches}
 use Rattle.curve.proofs.Curve.{onLine, atLeast}
 use Rattle.curve.proofs.Lights.{rule, systemAt, boundaries-at}
@@ -11,7 +10,7 @@ use Rattle.thresholds_8.proofs.boundaries.Tie as tie
 
 returns : tie.Need-returns
 unfolding boundary atLeast dark onLine reaches
-returns c = boundaries-at Bits8 (boundaries (rule (systemAt Bits8)) _ refl tt)
+returns c = boundaries-at 8 (boundaries (rule (systemAt 8)) _ refl tt)
 
 pub boundaries-spec : {M : Type 1} → statement M
 boundaries-spec = tie.close (tie.spec returns)

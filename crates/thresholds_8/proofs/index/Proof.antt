@@ -1,7 +1,6 @@
 -- The 8-bit index passes its test, which antt computes.
 -- Assumes nothing.
 use lib.Dec.{lit<, lit≤}
-use Rattle.systems.specs.declared.Depth.the-variants.{Bits8}
 use Rattle.curve.specs.Curve.{dark, reaches}
 use Rattle.curve.proofs.Curve.{onLine, atLeast}
 use Rattle.curve.proofs.Lights.{rule, systemAt, index-at}
@@ -11,7 +10,7 @@ use Rattle.thresholds_8.proofs.index.Tie as tie
 
 returns : tie.Need-returns
 unfolding bucket atLeast dark onLine reaches
-returns c = index-at Bits8 7 (index (rule (systemAt Bits8)) 128 _ (lit< tt) (lit≤ tt) (lit< tt) tt)
+returns c = index-at 8 7 (index (rule (systemAt 8)) 128 _ (lit< tt) (lit≤ tt) (lit< tt) tt)
 
 pub index-spec : {M : Type 1} → statement M
 index-spec = tie.close (tie.spec returns)

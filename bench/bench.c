@@ -160,7 +160,7 @@ struct misses {
     int worst;
 };
 
-// A peer's code beyond the nominal range is brought to its end first, as the document has it; the peers do not clip there.
+// A peer's code beyond video data is brought to its end first, as in the library; the peers do not clip there.
 static struct misses misses_of(const struct rows *rows, const struct contestant *c)
 {
     struct misses m = {0, 0};
@@ -168,7 +168,7 @@ static struct misses misses_of(const struct rows *rows, const struct contestant 
         for (size_t at = 0; at < samples(rows); at++) {
             int to_codes = c->way == WORDS_TO_CODES;
             int wanted = to_codes ? rows->back[p][at] : rows->words[p][at];
-            int made = to_codes ? nominal(rows->system, rows->result[p][at]) : rows->result[p][at];
+            int made = to_codes ? clipped(rows->system, rows->result[p][at]) : rows->result[p][at];
             int distance = abs(made - wanted);
             m.off += distance != 0;
             m.worst = distance > m.worst ? distance : m.worst;

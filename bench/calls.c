@@ -70,6 +70,14 @@ static void words_of_codes(const struct rows *rows)
     sink = sum;
 }
 
+static void trimmed_words_of_codes(const struct rows *rows)
+{
+    uint32_t sum = 0;
+    for (size_t i = 0; i < ARGUMENTS; i++)
+        sum += ferghulta_trimmed_words_of_codes(rows->system->number, codes_at(rows, i)).words.cb;
+    sink = sum;
+}
+
 static void codes_of_words(const struct rows *rows)
 {
     uint32_t sum = 0;
@@ -97,7 +105,8 @@ void time_calls(const struct system *system, int rounds, struct call calls[CALLS
         {"row (width 1)", row_of_one},           {"read_block (width 1)", block_of_one},
         {"code_of_light", code_of_light},        {"span_of_code", span_of_code},
         {"codes_of_signals", codes_of_signals},  {"signals_of_codes", signals_of_codes},
-        {"words_of_codes", words_of_codes},      {"codes_of_words", codes_of_words},
+        {"words_of_codes", words_of_codes},      {"trimmed_words_of_codes", trimmed_words_of_codes},
+        {"codes_of_words", codes_of_words},
     };
     struct rows *rows = rows_new(system, 1, ARGUMENTS);
     for (int c = 0; c < CALLS; c++)

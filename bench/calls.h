@@ -4,7 +4,7 @@
 
 #include "rows.h"
 
-enum { CALLS = 8 };
+enum { CALLS = 9 };
 
 struct call {
     const char *name;

@@ -20,9 +20,9 @@ void exact_words(const struct system *system, const uint16_t codes[PLANES], uint
     words[2] = (uint16_t)(int_of((10000 * r - luma) * 224, 438 * (10000 - kr)) + m);
 }
 
-uint16_t nominal(const struct system *system, int64_t code)
+uint16_t clipped(const struct system *system, int64_t code)
 {
-    int64_t low = 16 * scale(system), high = 235 * scale(system);
+    int64_t low = scale(system), high = 255 * scale(system) - 1;
     return (uint16_t)(code < low ? low : code > high ? high : code);
 }
 
@@ -31,7 +31,7 @@ void exact_codes(const struct system *system, const uint16_t words[PLANES], uint
     int64_t kr = system->kr, kg = system->kg, kb = system->kb, m = 128 * scale(system);
     int64_t y = words[0], cb = words[1] - m, cr = words[2] - m;
     int64_t red = 438 * (10000 - kr) * cr, blue = 438 * (10000 - kb) * cb, unit = 224 * 10000;
-    codes[0] = nominal(system, y + int_of(red, unit));
-    codes[1] = nominal(system, y + int_of(-kr * red - kb * blue, unit * kg));
-    codes[2] = nominal(system, y + int_of(blue, unit));
+    codes[0] = clipped(system, y + int_of(red, unit));
+    codes[1] = clipped(system, y + int_of(-kr * red - kb * blue, unit * kg));
+    codes[2] = clipped(system, y + int_of(blue, unit));
 }

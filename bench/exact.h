@@ -4,13 +4,13 @@
 
 #include "rows.h"
 
-// Y', Cb, Cr of R', G', B'.
+// Y', Cb, Cr of nominal R', G', B', on whose words no rule acts.
 void exact_words(const struct system *system, const uint16_t codes[PLANES], uint16_t words[PLANES]);
 
-// R', G', B' of Y', Cb, Cr, in the nominal range.
+// R', G', B' of Y', Cb, Cr, clipped to video data.
 void exact_codes(const struct system *system, const uint16_t words[PLANES], uint16_t codes[PLANES]);
 
-// The nearer end of the nominal R', G', B' range where a code is beyond it.
-uint16_t nominal(const struct system *system, int64_t code);
+// The nearest end of video data where a code is beyond it (request 2026-03).
+uint16_t clipped(const struct system *system, int64_t code);
 
 #endif

@@ -36,17 +36,18 @@ pub struct Triple(u16, u16, u16);
 
 #[repr(C)]
 #[derive(Debug, PartialEq)]
-pub struct TripleAnswer {
+pub struct CodesAnswer {
     pub refusal: u32,
-    triple: [u16; 3],
+    codes: [u16; 3],
 }
 
+/// Words and how many were moved, or codes and how many were clipped.
 #[repr(C)]
 #[derive(Debug, PartialEq)]
-pub struct DecodedAnswer {
+pub struct CountedAnswer {
     pub refusal: u32,
-    clipped: u32,
-    codes: [u16; 3],
+    count: u32,
+    triple: [u16; 3],
 }
 
 #[repr(C)]
@@ -99,20 +100,20 @@ impl From<Outcome<(u16, u16)>> for SpanAnswer {
     }
 }
 
-impl From<Outcome<[u16; 3]>> for TripleAnswer {
-    fn from(outcome: Outcome<[u16; 3]>) -> TripleAnswer {
-        let (refusal, triple) = parts(outcome);
-        TripleAnswer { refusal, triple }
+impl From<Outcome<[u16; 3]>> for CodesAnswer {
+    fn from(outcome: Outcome<[u16; 3]>) -> CodesAnswer {
+        let (refusal, codes) = parts(outcome);
+        CodesAnswer { refusal, codes }
     }
 }
 
-impl From<Outcome<([u16; 3], u32)>> for DecodedAnswer {
-    fn from(outcome: Outcome<([u16; 3], u32)>) -> DecodedAnswer {
-        let (refusal, (codes, clipped)) = parts(outcome);
-        DecodedAnswer {
+impl From<Outcome<([u16; 3], u32)>> for CountedAnswer {
+    fn from(outcome: Outcome<([u16; 3], u32)>) -> CountedAnswer {
+        let (refusal, (triple, count)) = parts(outcome);
+        CountedAnswer {
             refusal,
-            clipped,
-            codes,
+            count,
+            triple,
         }
     }
 }

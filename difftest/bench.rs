@@ -1,10 +1,11 @@
-//! Document 01's bench values, of the exact program itself.
+//! The bench values of document 01 and of request 2026-03, of the exact program itself.
 use crate::exact::*;
 
 pub fn check() {
     lights();
     signals();
     triples();
+    rules();
     blocks();
 }
 
@@ -28,14 +29,34 @@ fn signals() {
 }
 
 fn triples() {
-    assert_eq!(words_of_codes(1, [235, 16, 16]), Ok([63, 102, 240]));
+    for encoding in [Encoding::Plain, Encoding::Trim] {
+        let words = |system, codes| words_of_codes(system, encoding, codes);
+        assert_eq!(words(1, [235, 16, 16]), Ok(([63, 102, 240], 0)));
+        assert_eq!(words(1, [16, 16, 235]), Ok(([32, 240, 118], 0)));
+        assert_eq!(words(1, [16, 235, 16]), Ok(([173, 42, 26], 0)));
+        assert_eq!(words(3, [940, 64, 64]), Ok(([294, 387, 960], 0)));
+    }
     assert_eq!(codes_of_words(1, [63, 102, 240]), Ok(([235, 17, 16], 0)));
-    assert_eq!(words_of_codes(1, [16, 16, 235]), Ok([32, 240, 118]));
     assert_eq!(codes_of_words(1, [32, 240, 118]), Ok(([17, 16, 235], 0)));
-    assert_eq!(words_of_codes(1, [16, 235, 16]), Ok([173, 42, 26]));
-    assert_eq!(words_of_codes(3, [940, 64, 64]), Ok([294, 387, 960]));
-    assert_eq!(codes_of_words(1, [16, 240, 240]), Ok(([188, 16, 219], 1)));
-    assert_eq!(codes_of_words(1, [15, 128, 128]), Err(refusal::CODE));
+    assert_eq!(codes_of_words(1, [16, 240, 240]), Ok(([188, 1, 219], 1)));
+    assert_eq!(codes_of_words(1, [15, 128, 128]), Ok(([15, 15, 15], 0)));
+    assert_eq!(codes_of_words(1, [0, 128, 128]), Err(refusal::CODE));
+}
+
+/// Blue beyond 256s, yellow below 0, blue between nominal and the end of video data, and a grey above white, worked out by hand.
+fn rules() {
+    let plain = |codes| words_of_codes(1, Encoding::Plain, codes);
+    let trim = |codes| words_of_codes(1, Encoding::Trim, codes);
+    assert_eq!(plain([1, 1, 254]), Ok(([19, 254, 116], 1)));
+    assert_eq!(trim([1, 1, 254]), Ok(([19, 254, 116], 1)));
+    assert_eq!(plain([254, 254, 1]), Ok(([236, 1, 140], 1)));
+    assert_eq!(trim([254, 254, 1]), Ok(([235, 1, 140], 2)));
+    assert_eq!(plain([16, 16, 250]), Ok(([33, 248, 117], 0)));
+    assert_eq!(trim([16, 16, 250]), Ok(([33, 240, 117], 1)));
+    assert_eq!(plain([254; 3]), Ok(([254, 128, 128], 0)));
+    assert_eq!(trim([254; 3]), Ok(([235, 128, 128], 1)));
+    assert_eq!(plain([255, 16, 16]), Err(refusal::CODE));
+    assert_eq!(trim([16, 0, 16]), Err(refusal::CODE));
 }
 
 fn blocks() {

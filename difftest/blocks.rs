@@ -44,14 +44,16 @@ fn any_width(random: &mut Pseudorandom) -> usize {
     }
 }
 
-/// A section's words up to the highest: any, or at the ends of the range.
+/// A section's words: nominal, of video data, or at the ends of both.
 fn any_section(system: &System, highest: u16, width: usize, random: &mut Pseudorandom) -> Vec<u16> {
-    let low = system.lowest();
-    let ends = [low, low + 1, highest - 1, highest];
-    let at_ends = random.once_in(4);
-    let mut word = || match at_ends {
-        true => random.pick(&ends),
-        false => random.within(low, highest),
+    let (low, range) = (system.lowest(), system.video_data());
+    let (first, last) = (*range.start(), *range.end());
+    let ends = [first, first + 1, low - 1, low, low + 1, highest - 1, highest, highest + 1, last - 1, last];
+    let kind = random.below(4);
+    let mut word = || match kind {
+        0 => random.pick(&ends),
+        1 => random.within(low, highest),
+        _ => random.within(first, last),
     };
     (0..width).map(|_| word()).collect()
 }
@@ -93,13 +95,14 @@ fn damage_count(bytes: &mut [u8], width: usize, random: &mut Pseudorandom) {
     put_word(bytes, 3 + random.below(3) * (2 + 2 * width), count);
 }
 
-/// Another word in one of the sections, most of them outside nominal.
+/// Another word in one of the sections, many of them outside video data.
 fn damage_word(bytes: &mut [u8], width: usize, random: &mut Pseudorandom) {
     let s = 1 << (2 * random.below(3));
     let any = random.bits() as u16;
     #[rustfmt::skip]
     let word = random.pick(&[
-        0, s - 1, 16 * s - 1, 16 * s, 235 * s, 235 * s + 1, 240 * s, 240 * s + 1, 255 * s, 256 * s - 1, u16::MAX, any,
+        0, s - 1, s, 16 * s - 1, 16 * s, 235 * s, 235 * s + 1, 240 * s, 240 * s + 1, 255 * s - 1, 255 * s, 256 * s - 1, 256 * s,
+        u16::MAX, any,
     ]);
     let place = 3 + random.below(3) * (2 + 2 * width) + 2 + 2 * random.below(width);
     put_word(bytes, place, word);

@@ -1,6 +1,8 @@
 //! Document 01 in exact arithmetic: whole numbers only, written from the document alone, nothing shared with the library.
+//! Which codes and words are accepted, and the rules on words, are those of request 2026-03.
 //! A call answers its values, or `Err` with the refusal's number.
 use crate::natural::Natural;
+use std::ops::RangeInclusive;
 use std::sync::OnceLock;
 
 pub type Outcome<T> = Result<T, u32>;
@@ -91,12 +93,17 @@ impl System {
         (240 * self.scale) as u16
     }
 
-    pub fn is_nominal(&self, code: u16) -> bool {
-        (self.lowest()..=self.highest()).contains(&code)
+    fn nominal(&self) -> RangeInclusive<u16> {
+        self.lowest()..=self.highest()
     }
 
-    fn is_nominal_difference(&self, word: u16) -> bool {
-        (self.lowest()..=self.highest_difference()).contains(&word)
+    fn nominal_difference(&self) -> RangeInclusive<u16> {
+        self.lowest()..=self.highest_difference()
+    }
+
+    /// Of R', G', B', Y', Cb and Cr alike.
+    pub fn video_data(&self) -> RangeInclusive<u16> {
+        self.scale as u16..=(255 * self.scale - 1) as u16
     }
 
     pub fn is_timing(&self, word: u16) -> bool {
@@ -216,12 +223,22 @@ pub fn code_in(system: &System, light: u16) -> u16 {
 
 pub fn span_of_code(number: u32, code: u16) -> Outcome<(u16, u16)> {
     let system = system(number)?;
-    require(system.is_nominal(code), refusal::CODE)?;
+    require(system.nominal().contains(&code), refusal::CODE)?;
     Ok(span_in(system, code))
 }
 
 pub fn span_in(system: &System, code: u16) -> (u16, u16) {
     curve(system).spans[usize::from(code - system.lowest())]
+}
+
+/// The least light of the code below one that is read, and the greatest of the code above it: 'a code beyond nominal counts as the
+/// nominal end', and so does a neighbour.
+pub fn lights_near(system: &System, code: u16) -> (u16, u16) {
+    let (low, high) = (system.lowest(), system.highest());
+    let counted = code.clamp(low, high);
+    let (least, _) = span_in(system, (counted - 1).max(low));
+    let (_, greatest) = span_in(system, (counted + 1).min(high));
+    (least, greatest)
 }
 
 // ---- 'Float signals'; a float is given by its bits
@@ -259,7 +276,7 @@ fn code_of_signal(system: &System, bits: u32) -> u16 {
 
 pub fn signals_of_codes(number: u32, codes: [u16; 3]) -> Outcome<[u32; 3]> {
     let system = system(number)?;
-    require(are_nominal_codes(system, codes), refusal::CODE)?;
+    require(are_all_in(system.nominal(), codes), refusal::CODE)?;
     let s = system.scale as u128;
     Ok(codes.map(|code| nearest_f32(u128::from(code) - 16 * s, 219 * s)))
 }
@@ -283,14 +300,33 @@ pub fn nearest_f32(numerator: u128, denominator: u128) -> u32 {
 
 // ---- 'Triples'
 
-fn are_nominal_codes(system: &System, codes: [u16; 3]) -> bool {
-    codes.iter().all(|&code| system.is_nominal(code))
+fn are_all_in(range: RangeInclusive<u16>, triple: [u16; 3]) -> bool {
+    triple.iter().all(|component| range.contains(component))
 }
 
-fn are_nominal_words(system: &System, words: [u16; 3]) -> bool {
-    system.is_nominal(words[0])
-        && system.is_nominal_difference(words[1])
-        && system.is_nominal_difference(words[2])
+/// The nearest end of a range, where a number is beyond it.
+fn nearest_end(range: &RangeInclusive<u16>, number: i128) -> Option<u16> {
+    let (low, high) = (*range.start(), *range.end());
+    if number < i128::from(low) {
+        Some(low)
+    } else if number > i128::from(high) {
+        Some(high)
+    } else {
+        None
+    }
+}
+
+/// The numbers, of which some are brought to an end, and how many these are. The others are video data.
+fn brought(numbers: [i128; 3], ends: [Option<u16>; 3]) -> ([u16; 3], u32) {
+    let triple = [0, 1, 2].map(|place| ends[place].unwrap_or(numbers[place] as u16));
+    (triple, ends.iter().flatten().count() as u32)
+}
+
+/// How a code triple is encoded: with the guard rule alone, or with the trim rule beside it.
+#[derive(Clone, Copy, Debug, PartialEq)]
+pub enum Encoding {
+    Plain,
+    Trim,
 }
 
 /// What stands inside INT for Y', Cb and Cr of the codes R, G and B.
@@ -306,14 +342,36 @@ pub fn word_values(system: &System, codes: [u16; 3]) -> [Ratio; 3] {
     [ratio(luma, 10000), difference(b, kb), difference(r, kr)]
 }
 
-fn words_in(system: &System, codes: [u16; 3]) -> [u16; 3] {
-    word_values(system, codes).map(|v| int(v) as u16)
+/// 'The guard rule brings a word beyond video data to its nearest end.'
+fn guard(system: &System, word: i128) -> Option<u16> {
+    nearest_end(&system.video_data(), word)
 }
 
-pub fn words_of_codes(number: u32, codes: [u16; 3]) -> Outcome<[u16; 3]> {
+/// 'The trim rule, if chosen, brings a word beyond nominal to the nominal end.'
+fn trim(encoding: Encoding, nominal: &RangeInclusive<u16>, word: i128) -> Option<u16> {
+    match encoding {
+        Encoding::Plain => None,
+        Encoding::Trim => nearest_end(nominal, word),
+    }
+}
+
+/// 'The guard is tried first and only one rule acts on a word.' The words, and how many were moved.
+fn encoded_in(system: &System, encoding: Encoding, codes: [u16; 3]) -> ([u16; 3], u32) {
+    // Before the rules a word may be below 0 or above 256s.
+    let before = word_values(system, codes).map(int);
+    let (luma, difference) = (system.nominal(), system.nominal_difference());
+    let nominal = [&luma, &difference, &difference];
+    let ends = [0, 1, 2].map(|place| {
+        let word = before[place];
+        guard(system, word).or_else(|| trim(encoding, nominal[place], word))
+    });
+    brought(before, ends)
+}
+
+pub fn words_of_codes(number: u32, encoding: Encoding, codes: [u16; 3]) -> Outcome<([u16; 3], u32)> {
     let system = system(number)?;
-    require(are_nominal_codes(system, codes), refusal::CODE)?;
-    Ok(words_in(system, codes))
+    require(are_all_in(system.video_data(), codes), refusal::CODE)?;
+    Ok(encoded_in(system, encoding, codes))
 }
 
 /// What stands inside INT for R, G and B of the words Y', Cb and Cr, over the denominators of q and the weights.
@@ -333,18 +391,16 @@ fn code_values(system: &System, words: [u16; 3]) -> [Ratio; 3] {
     [direct(cr, kr), green, direct(cb, kb)]
 }
 
-/// The codes of nominal words, and how many of them were brought into the nominal range.
+/// The codes of words, and how many of them were clipped to video data.
 fn decoded_in(system: &System, words: [u16; 3]) -> ([u16; 3], u32) {
-    let low = i128::from(system.lowest());
-    let high = i128::from(system.highest());
+    let range = system.video_data();
     let components = code_values(system, words).map(int);
-    let beyond = components.iter().filter(|&&c| c < low || c > high).count();
-    (components.map(|c| c.clamp(low, high) as u16), beyond as u32)
+    brought(components, components.map(|c| nearest_end(&range, c)))
 }
 
 pub fn codes_of_words(number: u32, words: [u16; 3]) -> Outcome<([u16; 3], u32)> {
     let system = system(number)?;
-    require(are_nominal_words(system, words), refusal::CODE)?;
+    require(are_all_in(system.video_data(), words), refusal::CODE)?;
     Ok(decoded_in(system, words))
 }
 
@@ -383,7 +439,9 @@ fn block_of_lights(system: &System, number: u16, lights: &[u16]) -> Vec<u8> {
     let mut sections = [vec![], vec![], vec![]];
     for sample in lights.chunks_exact(3) {
         let codes = [sample[0], sample[1], sample[2]].map(|light| code_in(system, light));
-        for (section, word) in sections.iter_mut().zip(words_in(system, codes)) {
+        // The codes of lights are nominal, and no rule acts on their words.
+        let (words, _) = encoded_in(system, Encoding::Plain, codes);
+        for (section, word) in sections.iter_mut().zip(words) {
             section.push(word);
         }
     }
@@ -402,8 +460,8 @@ pub fn read_block(bytes: &[u8], places: usize) -> Outcome<Row> {
     let cr = section(&mut rest, Some(y.len()))?;
     require(rest.is_empty(), refusal::BYTES_AFTER)?;
     let words: Vec<[u16; 3]> = (0..y.len()).map(|j| [y[j], cb[j], cr[j]]).collect();
-    let nominal = words.iter().all(|&w| are_nominal_words(system, w));
-    require(nominal, refusal::CODE)?;
+    let accepted = words.iter().all(|&w| are_all_in(system.video_data(), w));
+    require(accepted, refusal::CODE)?;
     require(places >= 3 * words.len(), refusal::OUTPUT)?;
     Ok(row_of_words(system, number, &words))
 }

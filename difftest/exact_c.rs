@@ -4,6 +4,7 @@ pub mod exact;
 pub mod natural;
 
 use answers::*;
+use exact::Encoding;
 use std::slice::{from_raw_parts, from_raw_parts_mut};
 
 /// # Safety
@@ -66,7 +67,7 @@ pub extern "C" fn exact_span_of_code(system: u32, code: u16) -> SpanAnswer {
 }
 
 #[no_mangle]
-pub extern "C" fn exact_codes_of_signals(system: u32, signals: Signals) -> TripleAnswer {
+pub extern "C" fn exact_codes_of_signals(system: u32, signals: Signals) -> CodesAnswer {
     exact::codes_of_signals(system, signals.into()).into()
 }
 
@@ -76,11 +77,16 @@ pub extern "C" fn exact_signals_of_codes(system: u32, codes: Triple) -> SignalsA
 }
 
 #[no_mangle]
-pub extern "C" fn exact_words_of_codes(system: u32, codes: Triple) -> TripleAnswer {
-    exact::words_of_codes(system, codes.into()).into()
+pub extern "C" fn exact_words_of_codes(system: u32, codes: Triple) -> CountedAnswer {
+    exact::words_of_codes(system, Encoding::Plain, codes.into()).into()
 }
 
 #[no_mangle]
-pub extern "C" fn exact_codes_of_words(system: u32, words: Triple) -> DecodedAnswer {
+pub extern "C" fn exact_trimmed_words_of_codes(system: u32, codes: Triple) -> CountedAnswer {
+    exact::words_of_codes(system, Encoding::Trim, codes.into()).into()
+}
+
+#[no_mangle]
+pub extern "C" fn exact_codes_of_words(system: u32, words: Triple) -> CountedAnswer {
     exact::codes_of_words(system, words.into()).into()
 }

@@ -46,6 +46,13 @@ static uint32_t number(struct list *list, uint32_t small)
     return kind < 240 ? kind % small : kind < 248 ? word(list) : long_word(list);
 }
 
+/* Mostly a code or word of the system's bits, else any. */
+static uint16_t code_of_bits(struct list *list, uint32_t system)
+{
+    uint16_t any = word(list);
+    return byte(list) < 240 ? any % (system == 4 ? 4096 : system == 1 ? 256 : 1024) : any;
+}
+
 /* Mostly what is asked for, else a few more or fewer. */
 static size_t nearly(struct list *list, size_t asked, size_t most)
 {
@@ -143,7 +150,7 @@ static void any_picture(struct list *list)
 static void lights_and_codes(struct list *list)
 {
     uint32_t system = number(list, 6);
-    uint16_t light = word(list), code = (uint16_t)number(list, 240);
+    uint16_t light = word(list), code = code_of_bits(list, system);
     ferghulta_code_answer coded = ferghulta_code_of_light(system, light), exactly_coded = exact_code_of_light(system, light);
     ferghulta_span_answer span = ferghulta_span_of_code(system, code), exact_span = exact_span_of_code(system, code);
     AGREE(CODE_OF_LIGHT, coded, exactly_coded, code);
@@ -164,14 +171,19 @@ static void signals(struct list *list)
 static void triples(struct list *list)
 {
     uint32_t system = number(list, 6);
-    uint16_t first = word(list), second = word(list), third = word(list);
+    uint16_t first = code_of_bits(list, system), second = code_of_bits(list, system), third = code_of_bits(list, system);
     ferghulta_codes codes = { first, second, third };
     ferghulta_words words = { first, second, third };
     ferghulta_signals_answer restored = ferghulta_signals_of_codes(system, codes), exactly_restored = exact_signals_of_codes(system, codes);
-    ferghulta_words_answer encoded = ferghulta_words_of_codes(system, codes), exactly_encoded = exact_words_of_codes(system, codes);
+    ferghulta_words_answer plain = ferghulta_words_of_codes(system, codes), exactly_plain = exact_words_of_codes(system, codes);
+    ferghulta_words_answer trimmed = ferghulta_trimmed_words_of_codes(system, codes),
+                           exactly_trimmed = exact_trimmed_words_of_codes(system, codes);
     ferghulta_decoded_answer decoded = ferghulta_codes_of_words(system, words), exactly_decoded = exact_codes_of_words(system, words);
     AGREE(SIGNALS_OF_CODES, restored, exactly_restored, signals);
-    AGREE(WORDS_OF_CODES, encoded, exactly_encoded, words);
+    AGREE(WORDS_OF_CODES, plain, exactly_plain, words);
+    agree(WORDS_OF_CODES, "moved", &plain.moved, &exactly_plain.moved, sizeof plain.moved);
+    AGREE(TRIMMED_WORDS_OF_CODES, trimmed, exactly_trimmed, words);
+    agree(TRIMMED_WORDS_OF_CODES, "moved", &trimmed.moved, &exactly_trimmed.moved, sizeof trimmed.moved);
     AGREE(CODES_OF_WORDS, decoded, exactly_decoded, codes);
     agree(CODES_OF_WORDS, "clipped", &decoded.clipped, &exactly_decoded.clipped, sizeof decoded.clipped);
 }

@@ -5,10 +5,11 @@ use crate::answers::*;
 extern "C" {
     pub fn ferghulta_code_of_light(system: u32, light: u16) -> CodeAnswer;
     pub fn ferghulta_span_of_code(system: u32, code: u16) -> SpanAnswer;
-    pub fn ferghulta_codes_of_signals(system: u32, signals: Signals) -> TripleAnswer;
+    pub fn ferghulta_codes_of_signals(system: u32, signals: Signals) -> CodesAnswer;
     pub fn ferghulta_signals_of_codes(system: u32, codes: Triple) -> SignalsAnswer;
-    pub fn ferghulta_words_of_codes(system: u32, codes: Triple) -> TripleAnswer;
-    pub fn ferghulta_codes_of_words(system: u32, words: Triple) -> DecodedAnswer;
+    pub fn ferghulta_words_of_codes(system: u32, codes: Triple) -> CountedAnswer;
+    pub fn ferghulta_trimmed_words_of_codes(system: u32, codes: Triple) -> CountedAnswer;
+    pub fn ferghulta_codes_of_words(system: u32, words: Triple) -> CountedAnswer;
     pub fn ferghulta_new() -> Picture;
     pub fn ferghulta_open(p: Picture, system: u32, width: u32, height: u32) -> PictureAnswer;
     pub fn ferghulta_close(picture: Picture) -> PictureAnswer;
@@ -40,10 +41,11 @@ pub mod filled {
 
     #[allow(clashing_extern_declarations)]
     extern "C" {
-        pub fn ferghulta_codes_of_signals(system: u64, signals: FourSignals) -> TripleAnswer;
+        pub fn ferghulta_codes_of_signals(system: u64, signals: FourSignals) -> CodesAnswer;
         pub fn ferghulta_signals_of_codes(system: u64, codes: u64) -> SignalsAnswer;
-        pub fn ferghulta_words_of_codes(system: u64, codes: u64) -> TripleAnswer;
-        pub fn ferghulta_codes_of_words(system: u64, words: u64) -> DecodedAnswer;
+        pub fn ferghulta_words_of_codes(system: u64, codes: u64) -> CountedAnswer;
+        pub fn ferghulta_trimmed_words_of_codes(system: u64, codes: u64) -> CountedAnswer;
+        pub fn ferghulta_codes_of_words(system: u64, words: u64) -> CountedAnswer;
         pub fn ferghulta_open(p: Picture, system: u64, width: u64, height: u64) -> PictureAnswer;
     }
 }

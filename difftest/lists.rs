@@ -168,9 +168,8 @@ fn system_of(entry: &Entry) -> &'static System {
 fn are_codes_near(entry: &Entry, codes: &[u16]) -> bool {
     let system = system_of(entry);
     let is_near = |(&light, &code): (&u16, &u16)| {
-        let (below, _) = exact::span_in(system, (code - 1).max(system.lowest()));
-        let (_, above) = exact::span_in(system, (code + 1).min(system.highest()));
-        code.abs_diff(exact::code_in(system, light)) <= 1 && below <= light && light <= above
+        let (least, greatest) = exact::lights_near(system, code);
+        code.abs_diff(exact::code_in(system, light)) <= 1 && least <= light && light <= greatest
     };
     entry.lights.iter().zip(codes).all(is_near)
 }

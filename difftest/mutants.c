@@ -2,12 +2,14 @@
  * The calls of the library itself have the prefix right_. */
 #include "ferghulta.h"
 #include <stdlib.h>
+#include <string.h>
 
 ferghulta_code_answer right_ferghulta_code_of_light(uint32_t, uint16_t);
 ferghulta_span_answer right_ferghulta_span_of_code(uint32_t, uint16_t);
 ferghulta_codes_answer right_ferghulta_codes_of_signals(uint32_t, ferghulta_signals);
 ferghulta_signals_answer right_ferghulta_signals_of_codes(uint32_t, ferghulta_codes);
 ferghulta_words_answer right_ferghulta_words_of_codes(uint32_t, ferghulta_codes);
+ferghulta_words_answer right_ferghulta_trimmed_words_of_codes(uint32_t, ferghulta_codes);
 ferghulta_decoded_answer right_ferghulta_codes_of_words(uint32_t, ferghulta_words);
 ferghulta_block_answer right_ferghulta_read_block(const uint8_t *, size_t, uint16_t *, size_t);
 ferghulta_picture right_ferghulta_new(void);
@@ -35,9 +37,52 @@ ferghulta_code_answer ferghulta_code_of_light(uint32_t system, uint16_t light)
     return answer;
 }
 
+/* ---- the ranges of request 2026-03 */
+
+static int scale(uint32_t system)
+{
+    return system == 1 ? 1 : system == 4 ? 16 : 4;
+}
+
+static int is_system(uint32_t system)
+{
+    return 1 <= system && system <= 4;
+}
+
+static int is_within(int number, int low, int high)
+{
+    return low <= number && number <= high;
+}
+
+static int is_video_data(uint32_t system, uint16_t code)
+{
+    return is_within(code, scale(system), 255 * scale(system) - 1);
+}
+
+/* The nearest end of the nominal R', G', B' range where a code is beyond it. */
+static uint16_t nominal(uint32_t system, uint16_t code)
+{
+    int low = 16 * scale(system), high = 235 * scale(system);
+    return (uint16_t)(code < low ? low : code > high ? high : code);
+}
+
+static int are_nominal_codes(uint32_t system, ferghulta_codes codes)
+{
+    return nominal(system, codes.r) == codes.r && nominal(system, codes.g) == codes.g && nominal(system, codes.b) == codes.b;
+}
+
+static int are_nominal_words(uint32_t system, ferghulta_words words)
+{
+    int s = scale(system);
+    return is_within(words.y, 16 * s, 235 * s) && is_within(words.cb, 16 * s, 240 * s) && is_within(words.cr, 16 * s, 240 * s);
+}
+
+/* ---- lights and signals */
+
 ferghulta_span_answer ferghulta_span_of_code(uint32_t system, uint16_t code)
 {
-    ferghulta_span_answer answer = right_ferghulta_span_of_code(system, code);
+    int widened = mutant(27) && is_system(system) && is_video_data(system, code); /* to video data */
+    ferghulta_span_answer answer = right_ferghulta_span_of_code(system, widened ? nominal(system, code) : code);
     if (mutant(3) && answer.refusal == 0 && answer.span.greatest == 65535)
         answer.span.greatest = 65534;
     return answer;
@@ -55,19 +100,99 @@ ferghulta_codes_answer ferghulta_codes_of_signals(uint32_t system, ferghulta_sig
 
 ferghulta_signals_answer ferghulta_signals_of_codes(uint32_t system, ferghulta_codes codes)
 {
+    if (mutant(28) && is_system(system) && is_video_data(system, codes.g))
+        codes.g = nominal(system, codes.g); /* widened to video data */
     ferghulta_signals_answer answer = right_ferghulta_signals_of_codes(system, codes);
     if (mutant(6) && answer.signals.b == 0 && answer.refusal == 0)
         answer.signals.b = -0.0f;
     return answer;
 }
 
+/* ---- words */
+
+static int64_t luma_of(uint32_t system, ferghulta_codes codes)
+{
+    return system <= 2 ? 2126 * codes.r + 7152 * codes.g + 722 * codes.b : 2627 * codes.r + 6780 * codes.g + 593 * codes.b;
+}
+
+/* Cb or Cr of a primary with this weight, before a rule acts. */
+static int64_t difference_before(uint32_t system, ferghulta_codes codes, int64_t primary, int64_t weight)
+{
+    int64_t under = 438 * (10000 - weight), middle = 128 * scale(system);
+    int64_t twice = 2 * (10000 * primary - luma_of(system, codes)) * 224 + under;
+    return middle + twice / (2 * under) - (twice % (2 * under) < 0);
+}
+
+/* What a wrong rule makes of Cb or Cr. The guard never acts on Y', a mean of its codes. */
+static void spoil_difference(uint32_t system, int trim, int64_t before, uint16_t *word, uint32_t *moved)
+{
+    int s = scale(system), first = s, last = 255 * s - 1, top = 240 * s;
+    int below = before < first, above = before > last;
+    if ((mutant(29) || mutant(30)) && trim && (below || above)) { /* trim before the guard; or after it as well */
+        *word = (uint16_t)(below ? 16 * s : top);
+        *moved += mutant(30);
+    }
+    if (mutant(31) && before < 0)
+        *word = (uint16_t)last; /* a word below 0 wraps and is above video data */
+    if (mutant(32) && !trim && above) { /* the guard at 255s */
+        *word = (uint16_t)(255 * s);
+        *moved -= before == 255 * s;
+    }
+    if (mutant(33) && !trim && below) { /* the guard at 0 */
+        *word = (uint16_t)(before < 0 ? 0 : before);
+        *moved -= before >= 0;
+    }
+    if (mutant(34) && trim && !above && before > 235 * s) { /* trim to the end of Y' */
+        *word = (uint16_t)(235 * s);
+        *moved += before <= top;
+    }
+}
+
+static ferghulta_words_answer spoilt(uint32_t system, int trim, ferghulta_codes codes, ferghulta_words_answer answer)
+{
+    if (answer.refusal != 0)
+        return answer;
+    int64_t cb = difference_before(system, codes, codes.b, system <= 2 ? 722 : 593);
+    int64_t cr = difference_before(system, codes, codes.r, system <= 2 ? 2126 : 2627);
+    spoil_difference(system, trim, cb, &answer.words.cb, &answer.moved);
+    spoil_difference(system, trim, cr, &answer.words.cr, &answer.moved);
+    if (mutant(35))
+        answer.moved = 0;
+    if (mutant(36) && answer.moved > 1)
+        answer.moved = 1; /* whether, not how many */
+    return answer;
+}
+
 ferghulta_words_answer ferghulta_words_of_codes(uint32_t system, ferghulta_codes codes)
 {
+    if (mutant(37))
+        return right_ferghulta_trimmed_words_of_codes(system, codes); /* trim unasked */
     ferghulta_words_answer answer = right_ferghulta_words_of_codes(system, codes);
-    int luma = 2126 * codes.r + 7152 * codes.g + 722 * codes.b;
-    if (mutant(7) && system == 2 && answer.refusal == 0 && luma % 10000 == 5000)
+    if (mutant(7) && system == 2 && answer.refusal == 0 && luma_of(system, codes) % 10000 == 5000)
         answer.words.y--; /* halves down */
-    return answer;
+    if (mutant(38) && answer.refusal == 0 && !are_nominal_codes(system, codes))
+        return (ferghulta_words_answer){ .refusal = 6 }; /* at nominal */
+    return spoilt(system, 0, codes, answer);
+}
+
+ferghulta_words_answer ferghulta_trimmed_words_of_codes(uint32_t system, ferghulta_codes codes)
+{
+    if (mutant(39))
+        return right_ferghulta_words_of_codes(system, codes); /* trim left out */
+    return spoilt(system, 1, codes, right_ferghulta_trimmed_words_of_codes(system, codes));
+}
+
+/* ---- codes and blocks */
+
+/* Clips so many codes to nominal; answers how many are beyond it. */
+static uint32_t clip_to_nominal(uint32_t system, uint16_t *codes, size_t count)
+{
+    uint32_t clipped = 0;
+    for (size_t j = 0; j < count; j++) {
+        clipped += nominal(system, codes[j]) != codes[j];
+        codes[j] = nominal(system, codes[j]);
+    }
+    return clipped;
 }
 
 ferghulta_decoded_answer ferghulta_codes_of_words(uint32_t system, ferghulta_words words)
@@ -75,11 +200,48 @@ ferghulta_decoded_answer ferghulta_codes_of_words(uint32_t system, ferghulta_wor
     ferghulta_decoded_answer answer = right_ferghulta_codes_of_words(system, words);
     if (mutant(8) && answer.clipped == 2)
         answer.clipped = 1;
+    if (mutant(40) && answer.refusal == 0 && !are_nominal_words(system, words))
+        return (ferghulta_decoded_answer){ .refusal = 6 }; /* at nominal */
+    if (mutant(41) && answer.refusal == 0) {
+        uint16_t codes[] = { answer.codes.r, answer.codes.g, answer.codes.b };
+        answer.clipped = clip_to_nominal(system, codes, 3);
+        answer.codes = (ferghulta_codes){ codes[0], codes[1], codes[2] };
+    }
+    return answer;
+}
+
+static uint16_t word_at(const uint8_t *bytes, size_t place)
+{
+    return (uint16_t)(bytes[place] | bytes[place + 1] << 8);
+}
+
+static int has_nominal_words(const uint8_t *bytes, size_t samples)
+{
+    int all = 1;
+    for (size_t j = 0; j < samples; j++) {
+        const uint8_t *at = bytes + 5 + 2 * j;
+        ferghulta_words words = { word_at(at, 0), word_at(at, 2 + 2 * samples), word_at(at, 4 + 4 * samples) };
+        all &= are_nominal_words(bytes[0], words);
+    }
+    return all;
+}
+
+/* Reads into other memory, so that a refused block leaves the lent codes. */
+static ferghulta_block_answer read_nominal(const uint8_t *bytes, size_t length, uint16_t *codes, size_t places)
+{
+    static uint16_t read[3 * FERGHULTA_MOST_SAMPLES];
+    size_t most = sizeof read / sizeof *read;
+    ferghulta_block_answer answer = right_ferghulta_read_block(bytes, length, read, places < most ? places : most);
+    if (answer.refusal == 0 && !has_nominal_words(bytes, answer.samples))
+        return (ferghulta_block_answer){ .refusal = 6 };
+    memcpy(codes, read, 3 * (size_t)answer.samples * sizeof *codes);
     return answer;
 }
 
 ferghulta_block_answer ferghulta_read_block(const uint8_t *bytes, size_t length, uint16_t *codes, size_t places)
 {
+    if (mutant(42))
+        return read_nominal(bytes, length, codes, places); /* 6 at nominal */
     ferghulta_block_answer answer = right_ferghulta_read_block(bytes, length, codes, places);
     size_t written = 3 * (size_t)answer.samples;
     if (mutant(9) && answer.refusal == 0 && places > written)
@@ -94,8 +256,12 @@ ferghulta_block_answer ferghulta_read_block(const uint8_t *bytes, size_t length,
         answer.clipped = 0;
     if (mutant(14))
         kept = bytes[length]; /* read behind the block */
+    if (mutant(43) && answer.refusal == 0)
+        answer.clipped = clip_to_nominal(answer.system, codes, written);
     return answer;
 }
+
+/* ---- pictures and segmented frames */
 
 ferghulta_picture ferghulta_new(void)
 {

@@ -164,12 +164,13 @@ pub fn close(effort: &Effort, random: &mut Pseudorandom) -> bool {
 
 // ---- row
 
-/// Lights of a row: any, dark, or at the ends.
+/// Lights of a row: any, dark, at the ends, or near them, whose codes may come back beyond nominal.
 pub fn any_lights(count: usize, random: &mut Pseudorandom) -> Vec<u16> {
-    let kind = random.below(4);
+    let kind = random.below(5);
     let mut light = || match kind {
         0 => random.pick(&[0, 1, 1179, 1180, 1186, 1187, 65534, 65535]),
         1 => random.below(2000) as u16,
+        2 => random.pick(&[0, u16::MAX]) ^ random.below(600) as u16,
         _ => random.bits() as u16,
     };
     (0..count).map(|_| light()).collect()

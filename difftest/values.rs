@@ -1,7 +1,7 @@
 //! The calls on single values and triples.
 use crate::answers::*;
 use crate::library::{self, filled};
-use crate::exact::{self, System, SYSTEMS};
+use crate::exact::{self, Encoding, System, SYSTEMS};
 use crate::pseudorandom::Pseudorandom;
 use crate::tally::Tally;
 use crate::Effort;
@@ -86,7 +86,7 @@ fn signed_edges() -> Vec<u32> {
 #[inline]
 fn signals(tally: &mut Tally, system: u32, bits: [u32; 3]) {
     let got = unsafe { library::ferghulta_codes_of_signals(system, bits.into()) };
-    let wanted = TripleAnswer::from(exact::codes_of_signals(system, bits));
+    let wanted = CodesAnswer::from(exact::codes_of_signals(system, bits));
     tally.count(wanted.refusal, got == wanted, || {
         format!("system {system} signals {bits:x?}: {got:?}, wanted {wanted:?}")
     });
@@ -190,7 +190,7 @@ pub fn signals_of_codes(effort: &Effort, random: &mut Pseudorandom) -> bool {
     edge_codes(effort, |system, codes| restored(&mut tally, system, codes));
     for _ in 0..4 * effort.cases {
         let system = any_system(random);
-        restored(&mut tally, system, any_codes(system, random));
+        restored(&mut tally, system, any_triple(system, random));
     }
     tally.end()
 }
@@ -205,38 +205,40 @@ fn nominal_codes(system: &System, random: &mut Pseudorandom) -> [u16; 3] {
     [(); 3].map(|()| random.within(system.lowest(), system.highest()))
 }
 
-/// Nominal codes, now and then one of them anything.
-fn any_codes(system: u32, random: &mut Pseudorandom) -> [u16; 3] {
-    let codes = nominal_codes(known(system), random);
-    if random.once_in(8) {
-        with_one(codes, random.bits() as u16, random)
-    } else {
-        codes
-    }
+fn video_data(system: &System, random: &mut Pseudorandom) -> u16 {
+    let range = system.video_data();
+    random.within(*range.start(), *range.end())
 }
 
-/// Nominal words, now and then one of them anything.
-fn any_words(system: u32, random: &mut Pseudorandom) -> [u16; 3] {
+/// A code or word that is close to an end of video data: of such codes many words are beyond it.
+fn near_end(system: &System, random: &mut Pseudorandom) -> u16 {
+    let (range, within) = (system.video_data(), 12 * system.scale as usize);
+    let off = random.below(within) as u16;
+    random.pick(&[range.start() + off, range.end() - off])
+}
+
+/// Codes or words: nominal, of video data, or close to its ends; now and then one of them is anything.
+fn any_triple(system: u32, random: &mut Pseudorandom) -> [u16; 3] {
     let known = known(system);
-    let (low, high) = (known.lowest(), known.highest());
-    let mut difference = || random.within(low, known.highest_difference());
-    let (cb, cr) = (difference(), difference());
-    let words = [random.within(low, high), cb, cr];
+    let triple = match random.below(3) {
+        0 => nominal_codes(known, random),
+        1 => [(); 3].map(|()| video_data(known, random)),
+        _ => [(); 3].map(|()| near_end(known, random)),
+    };
     if random.once_in(8) {
-        with_one(words, random.bits() as u16, random)
+        with_one(triple, random.bits() as u16, random)
     } else {
-        words
+        triple
     }
 }
 
-/// The ends of the ranges of codes and words with their neighbours, the middle, the ends of u16.
+/// The ends of the ranges of codes and words with their neighbours, the middle, the end of the timing codes, the ends of u16.
 fn edges(system: &System) -> Vec<u16> {
-    let (low, high) = (system.lowest(), system.highest());
-    let top = system.highest_difference();
-    let middle = (128 * system.scale) as u16;
+    let s = system.scale as u16;
     #[rustfmt::skip]
     let edges = [
-        0, low - 1, low, low + 1, middle - 1, middle, middle + 1, high - 1, high, high + 1, top, top + 1, u16::MAX,
+        0, s - 1, s, s + 1, 16 * s - 1, 16 * s, 16 * s + 1, 128 * s - 1, 128 * s, 128 * s + 1, 235 * s - 1, 235 * s, 235 * s + 1,
+        240 * s - 1, 240 * s, 240 * s + 1, 255 * s - 2, 255 * s - 1, 255 * s, 256 * s - 1, 256 * s, u16::MAX,
     ];
     edges.to_vec()
 }
@@ -249,9 +251,11 @@ fn edge_codes(effort: &Effort, mut compare: impl FnMut(u32, [u16; 3])) {
     }
 }
 
-fn encoded(tally: &mut Tally, system: u32, codes: [u16; 3]) {
-    let got = unsafe { library::ferghulta_words_of_codes(system, codes.into()) };
-    let wanted = TripleAnswer::from(exact::words_of_codes(system, codes));
+type Encode = unsafe extern "C" fn(u32, Triple) -> CountedAnswer;
+
+fn encoded(tally: &mut Tally, call: Encode, encoding: Encoding, system: u32, codes: [u16; 3]) {
+    let got = unsafe { call(system, codes.into()) };
+    let wanted = CountedAnswer::from(exact::words_of_codes(system, encoding, codes));
     tally.count(wanted.refusal, got == wanted, || {
         format!("system {system} codes {codes:?}: {got:?}, wanted {wanted:?}")
     });
@@ -259,26 +263,20 @@ fn encoded(tally: &mut Tally, system: u32, codes: [u16; 3]) {
 
 fn decoded(tally: &mut Tally, system: u32, words: [u16; 3]) {
     let got = unsafe { library::ferghulta_codes_of_words(system, words.into()) };
-    let wanted = DecodedAnswer::from(exact::codes_of_words(system, words));
+    let wanted = CountedAnswer::from(exact::codes_of_words(system, words));
     tally.count(wanted.refusal, got == wanted, || {
         format!("system {system} words {words:?}: {got:?}, wanted {wanted:?}")
     });
 }
 
-/// Lines of triples along each axis: one component takes every value of its range, so that halves occur.
-fn lines(
-    effort: &Effort,
-    random: &mut Pseudorandom,
-    top: fn(&System) -> [u16; 3],
-    mut compare: impl FnMut(u32, [u16; 3]),
-) {
+/// Lines of triples along each axis: one component takes every value of video data, so that halves occur and each end is passed.
+fn lines(effort: &Effort, random: &mut Pseudorandom, mut compare: impl FnMut(u32, [u16; 3])) {
     for system in &SYSTEMS {
-        let length = system.highest() - system.lowest();
-        for _ in 0..1 + 3 * effort.cases / usize::from(length) {
-            let tops = top(system);
-            let mut triple = tops.map(|top| random.within(system.lowest(), top));
+        let range = system.video_data();
+        for _ in 0..1 + 3 * effort.cases / range.len() {
+            let mut triple = any_line(system, random);
             let axis = random.below(3);
-            for value in system.lowest()..=tops[axis] {
+            for value in range.clone() {
                 triple[axis] = value;
                 compare(system.number, triple);
             }
@@ -286,42 +284,46 @@ fn lines(
     }
 }
 
-pub fn words_of_codes(effort: &Effort, random: &mut Pseudorandom) -> bool {
-    let mut tally = Tally::new("words_of_codes");
-    let eight_bits: Vec<u16> = (16..=235).collect();
-    for codes in triples(&eight_bits, effort.triple_stride()) {
-        encoded(&mut tally, 1, codes);
+/// Where a line begins: anywhere in video data, or close to its ends.
+fn any_line(system: &System, random: &mut Pseudorandom) -> [u16; 3] {
+    let component = random.pick(&[video_data, near_end]);
+    [(); 3].map(|()| component(system, random))
+}
+
+/// What both ways of triples are compared on.
+fn all_triples(effort: &Effort, random: &mut Pseudorandom, mut compare: impl FnMut(u32, [u16; 3])) {
+    let eight_bits: Vec<u16> = SYSTEMS[0].video_data().collect();
+    for triple in triples(&eight_bits, effort.triple_stride()) {
+        compare(1, triple);
     }
-    edge_codes(effort, |system, codes| encoded(&mut tally, system, codes));
-    let top = |system: &System| [system.highest(); 3];
-    lines(effort, random, top, |system, codes| {
-        encoded(&mut tally, system, codes)
-    });
+    edge_codes(effort, &mut compare);
+    lines(effort, random, &mut compare);
     for _ in 0..8 * effort.cases {
         let system = any_system(random);
-        encoded(&mut tally, system, any_codes(system, random));
+        compare(system, any_triple(system, random));
     }
+}
+
+fn words_by(effort: &Effort, random: &mut Pseudorandom, name: &'static str, call: Encode, encoding: Encoding) -> bool {
+    let mut tally = Tally::new(name);
+    all_triples(effort, random, |system, codes| {
+        encoded(&mut tally, call, encoding, system, codes)
+    });
     tally.end()
+}
+
+pub fn words_of_codes(effort: &Effort, random: &mut Pseudorandom) -> bool {
+    let (plain, trim) = (
+        library::ferghulta_words_of_codes,
+        library::ferghulta_trimmed_words_of_codes,
+    );
+    words_by(effort, random, "words_of_codes", plain, Encoding::Plain)
+        & words_by(effort, random, "trimmed_words_of_codes", trim, Encoding::Trim)
 }
 
 pub fn codes_of_words(effort: &Effort, random: &mut Pseudorandom) -> bool {
     let mut tally = Tally::new("codes_of_words");
-    let eight_bits: Vec<u16> = (16..=240).collect();
-    for words in triples(&eight_bits, effort.triple_stride()) {
-        decoded(&mut tally, 1, words);
-    }
-    edge_codes(effort, |system, words| decoded(&mut tally, system, words));
-    let top = |system: &System| {
-        let difference = system.highest_difference();
-        [system.highest(), difference, difference]
-    };
-    lines(effort, random, top, |system, words| {
-        decoded(&mut tally, system, words)
-    });
-    for _ in 0..8 * effort.cases {
-        let system = any_system(random);
-        decoded(&mut tally, system, any_words(system, random));
-    }
+    all_triples(effort, random, |system, words| decoded(&mut tally, system, words));
     tally.end()
 }
 
@@ -338,22 +340,25 @@ pub fn filled_registers(effort: &Effort, random: &mut Pseudorandom) -> bool {
     for _ in 0..effort.cases {
         let system = any_system(random);
         let wide = random.bits() << 32 | u64::from(system);
-        let (codes, words) = (any_codes(system, random), any_words(system, random));
+        let (codes, words) = (any_triple(system, random), any_triple(system, random));
         let bits = [any_signal(random), any_signal(random), any_signal(random)];
         let fourth = f32::from_bits(random.bits() as u32);
         let agree = unsafe {
-            let encoded = filled::ferghulta_words_of_codes(wide, in_register(codes, random));
+            let plain = filled::ferghulta_words_of_codes(wide, in_register(codes, random));
+            let trimmed = filled::ferghulta_trimmed_words_of_codes(wide, in_register(codes, random));
             let decoded = filled::ferghulta_codes_of_words(wide, in_register(words, random));
             let restored = filled::ferghulta_signals_of_codes(wide, in_register(codes, random));
             let signals = filled::FourSignals(bits.into(), fourth);
             let quantised = filled::ferghulta_codes_of_signals(wide, signals);
-            encoded == exact::words_of_codes(system, codes).into()
+            plain == exact::words_of_codes(system, Encoding::Plain, codes).into()
+                && trimmed == exact::words_of_codes(system, Encoding::Trim, codes).into()
                 && decoded == exact::codes_of_words(system, words).into()
                 && restored.bits()
                     == SignalsAnswer::from(exact::signals_of_codes(system, codes)).bits()
                 && quantised == exact::codes_of_signals(system, bits).into()
         };
-        let refusal = exact::words_of_codes(system, codes).err().unwrap_or(0);
+        let encoded = exact::words_of_codes(system, Encoding::Plain, codes);
+        let refusal = encoded.err().unwrap_or(0);
         tally.count(refusal, agree, || {
             format!("system {system} codes {codes:?} words {words:?} signals {bits:x?}")
         });

@@ -37,12 +37,18 @@ static void expect_signal(uint32_t system, float e, uint16_t code, uint16_t blac
     }
 }
 
-static void expect_words(uint32_t system, ferghulta_codes codes, ferghulta_words wanted) {
-    ferghulta_words_answer answer = ferghulta_words_of_codes(system, codes);
+static void expect_encoded(ferghulta_words_answer answer, ferghulta_words wanted, uint32_t moved) {
     expect("codes accepted", answer.refusal, 0);
+    expect("moved", answer.moved, moved);
     expect("Y'", answer.words.y, wanted.y);
     expect("Cb", answer.words.cb, wanted.cb);
     expect("Cr", answer.words.cr, wanted.cr);
+}
+
+/* Words that no rule moves, in both encodings. */
+static void expect_words(uint32_t system, ferghulta_codes codes, ferghulta_words wanted) {
+    expect_encoded(ferghulta_words_of_codes(system, codes), wanted, 0);
+    expect_encoded(ferghulta_trimmed_words_of_codes(system, codes), wanted, 0);
 }
 
 static void expect_codes(uint32_t system, ferghulta_words words, ferghulta_codes wanted, uint32_t clipped) {
@@ -74,9 +80,11 @@ static void lights(void) {
 
 static void triples(void) {
     ferghulta_codes red = {235, 16, 16}, green = {16, 235, 16}, blue = {16, 16, 235}, red10 = {940, 64, 64};
-    ferghulta_codes red_back = {235, 17, 16}, blue_back = {17, 16, 235}, clipped_codes = {188, 16, 219};
+    ferghulta_codes red_back = {235, 17, 16}, blue_back = {17, 16, 235};
+    ferghulta_codes clipped_codes = {188, 1, 219}, low_codes = {15, 15, 15};
     ferghulta_words red_words = {63, 102, 240}, green_words = {173, 42, 26}, blue_words = {32, 240, 118};
     ferghulta_words red10_words = {294, 387, 960}, clipped_words = {16, 240, 240}, low_words = {15, 128, 128};
+    ferghulta_words timing_words = {0, 128, 128};
     expect_signal(1, 0.5f, 126, 16);
     expect_signal(2, 0.375f, 393, 64);
     expect_words(1, red, red_words);
@@ -86,7 +94,32 @@ static void triples(void) {
     expect_codes(1, red_words, red_back, 0);
     expect_codes(1, blue_words, blue_back, 0);
     expect_codes(1, clipped_words, clipped_codes, 1);
-    expect("low words", ferghulta_codes_of_words(1, low_words).refusal, FERGHULTA_REFUSED_CODE);
+    expect_codes(1, low_words, low_codes, 0);
+    expect("timing words", ferghulta_codes_of_words(1, timing_words).refusal, FERGHULTA_REFUSED_CODE);
+}
+
+/* Words before the rules are 19 257 116 for the lamp, 236 -1 140 for its yellow and 33 248 117 for a duller lamp. */
+static void rules(void) {
+    ferghulta_codes lamp = {1, 1, 254}, yellow = {254, 254, 1}, duller = {16, 16, 250}, timing = {16, 255, 16};
+    ferghulta_words lamp_words = {19, 254, 116}, yellow_words = {236, 1, 140}, duller_words = {33, 248, 117};
+    ferghulta_words yellow_trimmed = {235, 1, 140}, duller_trimmed = {33, 240, 117};
+    expect_encoded(ferghulta_words_of_codes(1, lamp), lamp_words, 1);
+    expect_encoded(ferghulta_words_of_codes(1, yellow), yellow_words, 1);
+    expect_encoded(ferghulta_words_of_codes(1, duller), duller_words, 0);
+    expect_encoded(ferghulta_trimmed_words_of_codes(1, lamp), lamp_words, 1);
+    expect_encoded(ferghulta_trimmed_words_of_codes(1, yellow), yellow_trimmed, 2);
+    expect_encoded(ferghulta_trimmed_words_of_codes(1, duller), duller_trimmed, 1);
+    expect("timing codes", ferghulta_words_of_codes(1, timing).refusal, FERGHULTA_REFUSED_CODE);
+    expect("timing codes, trim", ferghulta_trimmed_words_of_codes(1, timing).refusal, FERGHULTA_REFUSED_CODE);
+}
+
+/* Light span and code to float take nominal codes alone. */
+static void nominal_calls(void) {
+    ferghulta_codes below = {15, 16, 16}, above = {16, 16, 236};
+    expect("span of 15", ferghulta_span_of_code(1, 15).refusal, FERGHULTA_REFUSED_CODE);
+    expect("span of 236", ferghulta_span_of_code(1, 236).refusal, FERGHULTA_REFUSED_CODE);
+    expect("signal of 15", ferghulta_signals_of_codes(1, below).refusal, FERGHULTA_REFUSED_CODE);
+    expect("signal of 236", ferghulta_signals_of_codes(1, above).refusal, FERGHULTA_REFUSED_CODE);
 }
 
 static void widths(void) {
@@ -183,6 +216,8 @@ static void version(void) {
 int main(void) {
     lights();
     triples();
+    rules();
+    nominal_calls();
     widths();
     listing();
     rows_in_any_order();

@@ -4,8 +4,8 @@
 
 use core::fmt;
 
-/// The version of the header that this file follows, as one number: 10201 is 1.2.1.
-pub const VERSION: u32 = 10201;
+/// The version of the header that this file follows, as one number: 20000 is 2.0.0.
+pub const VERSION: u32 = 20000;
 
 /// The version of the archive that the program is linked with.
 #[must_use]
@@ -51,7 +51,7 @@ const REFUSALS: [(Refusal, &str); 16] = [
     (Refusal::Height, "height not 1 to 4320"),
     (Refusal::Lights, "lights not 3 * width"),
     (Refusal::Output, "lent output too short"),
-    (Refusal::Code, "code or word outside nominal"),
+    (Refusal::Code, "code or word outside video data, or nominal where a call asks for it"),
     (Refusal::Signal, "signal below 0, above 1, or not a number"),
     (Refusal::BlockEnd, "block ends too early"),
     (Refusal::Count, "count 0, above 7680, or unlike the Y' count"),
@@ -123,6 +123,21 @@ pub struct Words {
     pub cr: u16,
 }
 
+/// Which rules act on the words of a code triple: the guard alone, or the guard and then trim.
+#[derive(Clone, Copy, Debug, PartialEq, Eq)]
+pub enum Encoding {
+    Plain,
+    Trim,
+}
+
+/// Words, and how many of the three a rule moved.
+#[derive(Clone, Copy, Debug, PartialEq, Eq)]
+#[repr(C)]
+pub struct Limited {
+    pub moved: u32,
+    pub words: Words,
+}
+
 /// Codes, and how many of the three were clipped.
 #[derive(Clone, Copy, Debug, PartialEq, Eq)]
 #[repr(C)]
@@ -173,7 +188,8 @@ unsafe extern "C" {
     safe fn ferghulta_span_of_code(system: System, code: u16) -> Answer<Span>;
     safe fn ferghulta_codes_of_signals(system: System, signals: Signals) -> Answer<Codes>;
     safe fn ferghulta_signals_of_codes(system: System, codes: Codes) -> Answer<Signals>;
-    safe fn ferghulta_words_of_codes(system: System, codes: Codes) -> Answer<Words>;
+    safe fn ferghulta_words_of_codes(system: System, codes: Codes) -> Answer<Limited>;
+    safe fn ferghulta_trimmed_words_of_codes(system: System, codes: Codes) -> Answer<Limited>;
     safe fn ferghulta_codes_of_words(system: System, words: Words) -> Answer<Decoded>;
     safe fn ferghulta_new() -> Kept;
     safe fn ferghulta_open(picture: Kept, system: System, width: u32, height: u32) -> Answer<Kept>;
@@ -194,6 +210,7 @@ impl System {
         ferghulta_code_of_light(self, light).values
     }
 
+    /// Takes a nominal code.
     pub fn span_of_code(self, code: u16) -> Result<Span, Refusal> {
         ferghulta_span_of_code(self, code).result()
     }
@@ -202,20 +219,27 @@ impl System {
         ferghulta_codes_of_signals(self, signals).result()
     }
 
+    /// Takes nominal codes.
     pub fn signals_of_codes(self, codes: Codes) -> Result<Signals, Refusal> {
         ferghulta_signals_of_codes(self, codes).result()
     }
 
-    pub fn words_of_codes(self, codes: Codes) -> Result<Words, Refusal> {
-        ferghulta_words_of_codes(self, codes).result()
+    /// Takes codes of video data.
+    pub fn words_of_codes(self, encoding: Encoding, codes: Codes) -> Result<Limited, Refusal> {
+        let answer = match encoding {
+            Encoding::Plain => ferghulta_words_of_codes(self, codes),
+            Encoding::Trim => ferghulta_trimmed_words_of_codes(self, codes),
+        };
+        answer.result()
     }
 
+    /// Takes words of video data, and clips the codes to video data.
     pub fn codes_of_words(self, words: Words) -> Result<Decoded, Refusal> {
         ferghulta_codes_of_words(self, words).result()
     }
 }
 
-/// Reads one block; the codes go to the front of `codes`.
+/// Reads one block of video data words; the codes, clipped to video data, go to the front of `codes`.
 pub fn read_block(bytes: &[u8], codes: &mut [u16]) -> Result<Block, Refusal> {
     // SAFETY: both slices are lent for the call with their own lengths, and a slice's pointer is never null.
     let answer = unsafe { ferghulta_read_block(bytes.as_ptr(), bytes.len(), codes.as_mut_ptr(), codes.len()) };

@@ -124,7 +124,8 @@ def legend(y, entries):
 
 def colour_strip(codes, y, height):
     def shown(code):
-        return 255 * (code - BLACK) // (WHITE - BLACK)
+        nominal = min(max(code, BLACK), WHITE)  # a code may come back one beyond it
+        return 255 * (nominal - BLACK) // (WHITE - BLACK)
 
     for x in range(WIDTH):
         r, g, b = (shown(c) for c in codes[3 * x : 3 * x + 3])

@@ -26,12 +26,12 @@
 #include <stddef.h>
 #include <stdint.h>
 
-#define FERGHULTA_VERSION_MAJOR 1
-#define FERGHULTA_VERSION_MINOR 2
-#define FERGHULTA_VERSION_PATCH 1
-#define FERGHULTA_VERSION "1.2.1"
+#define FERGHULTA_VERSION_MAJOR 2
+#define FERGHULTA_VERSION_MINOR 0
+#define FERGHULTA_VERSION_PATCH 0
+#define FERGHULTA_VERSION "2.0.0"
 
-/* The version as one number to compare, in #if too: 10201 is 1.2.1. CHANGELOG.md says what a version promises. */
+/* The version as one number to compare, in #if too: 20000 is 2.0.0. CHANGELOG.md says what a version promises. */
 #define FERGHULTA_VERSION_NUMBER                                                                                       \
     (10000 * FERGHULTA_VERSION_MAJOR + 100 * FERGHULTA_VERSION_MINOR + FERGHULTA_VERSION_PATCH)
 
@@ -61,8 +61,10 @@ extern "C" {
 /* The version of the archive: FERGHULTA_VERSION_NUMBER, where the program is linked with the archive of this header. */
 FERGHULTA_MUST_USE uint32_t ferghulta_version(void);
 
-/* A system is a matrix and a bit depth n; its scale s is 2^(n - 8). Nominal R', G', B' and Y' run from 16s to 235s,
- * nominal Cb and Cr from 16s to 240s. Calls take the system as a uint32_t and refuse any other number. */
+/* A system is a matrix and a bit depth n; its scale s is 2^(n - 8). Video data runs from s to 255s - 1, for R', G', B',
+ * Y', Cb and Cr alike (request 2026-03); within it, nominal R', G', B' and Y' run from 16s to 235s, nominal Cb and Cr
+ * from 16s to 240s. Each call says which of the two it takes. Calls take the system as a uint32_t and refuse any other
+ * number. */
 enum ferghulta_system {
     FERGHULTA_BT709_8 = 1,   /* s = 1 */
     FERGHULTA_BT709_10 = 2,  /* s = 4 */
@@ -79,7 +81,7 @@ enum ferghulta_refusal {
     FERGHULTA_REFUSED_HEIGHT = 3,        /* height not 1 to 4320 */
     FERGHULTA_REFUSED_LIGHTS = 4,        /* lights not 3 * width */
     FERGHULTA_REFUSED_OUTPUT = 5,        /* lent output too short */
-    FERGHULTA_REFUSED_CODE = 6,          /* code or word outside nominal */
+    FERGHULTA_REFUSED_CODE = 6,          /* code or word outside video data, or nominal where a call asks for it */
     FERGHULTA_REFUSED_SIGNAL = 7,        /* signal below 0, above 1, or not a number */
     FERGHULTA_REFUSED_BLOCK_END = 8,     /* block ends too early */
     FERGHULTA_REFUSED_COUNT = 9,         /* count 0, above 7680, or unlike the Y' count */
@@ -101,7 +103,7 @@ FERGHULTA_MUST_USE static __inline const char *ferghulta_refusal_text(uint32_t r
     case FERGHULTA_REFUSED_HEIGHT: return "height not 1 to 4320";
     case FERGHULTA_REFUSED_LIGHTS: return "lights not 3 * width";
     case FERGHULTA_REFUSED_OUTPUT: return "lent output too short";
-    case FERGHULTA_REFUSED_CODE: return "code or word outside nominal";
+    case FERGHULTA_REFUSED_CODE: return "code or word outside video data, or nominal where a call asks for it";
     case FERGHULTA_REFUSED_SIGNAL: return "signal below 0, above 1, or not a number";
     case FERGHULTA_REFUSED_BLOCK_END: return "block ends too early";
     case FERGHULTA_REFUSED_COUNT: return "count 0, above 7680, or unlike the Y' count";
@@ -125,7 +127,7 @@ typedef struct ferghulta_code_answer {
     uint16_t code;
 } ferghulta_code_answer;
 
-/* The R', G' or B' code of a light. Refused: 1. */
+/* The R', G' or B' code of a light, a nominal one. Refused: 1. */
 FERGHULTA_MUST_USE ferghulta_code_answer ferghulta_code_of_light(uint32_t system, uint16_t light);
 
 /* The lights from least to greatest, both included. */
@@ -138,7 +140,7 @@ typedef struct ferghulta_span_answer {
     ferghulta_span span;
 } ferghulta_span_answer;
 
-/* The lights of a nominal R', G' or B' code; each code has at least one. Refused: 1, 6. */
+/* The lights of a nominal R', G' or B' code; each code has at least one. Refused: 1, 6 (the code is not nominal). */
 FERGHULTA_MUST_USE ferghulta_span_answer ferghulta_span_of_code(uint32_t system, uint16_t code);
 
 /* ---- Triples: the signals E' (0 to 1), the codes or the words of one sample. */
@@ -160,7 +162,7 @@ typedef struct ferghulta_codes_answer {
     ferghulta_codes codes;
 } ferghulta_codes_answer;
 
-/* The codes of three signals, each of its exact value; negative zero is zero. Refused: 1, 7. */
+/* The nominal codes of three signals, each of its exact value; negative zero is zero. Refused: 1, 7. */
 FERGHULTA_MUST_USE ferghulta_codes_answer ferghulta_codes_of_signals(uint32_t system, ferghulta_signals signals);
 
 typedef struct ferghulta_signals_answer {
@@ -168,24 +170,32 @@ typedef struct ferghulta_signals_answer {
     ferghulta_signals signals;
 } ferghulta_signals_answer;
 
-/* The floats nearest to the signals of three nominal codes; they quantise to these codes again. Refused: 1, 6. */
+/* The floats nearest to the signals of three nominal codes; they quantise to these codes again. Refused: 1, 6 (a code
+ * is not nominal). */
 FERGHULTA_MUST_USE ferghulta_signals_answer ferghulta_signals_of_codes(uint32_t system, ferghulta_codes codes);
 
 typedef struct ferghulta_words_answer {
     uint32_t refusal;
+    uint32_t moved; /* how many of the three words a rule moved */
     ferghulta_words words;
 } ferghulta_words_answer;
 
-/* Y', Cb and Cr of nominal R', G', B' codes. Refused: 1, 6. */
+/* Y', Cb and Cr of R', G', B' codes of video data, in plain encoding: the guard rule brings a word beyond video data to
+ * its nearest end. Of nominal codes no word is moved. Refused: 1, 6 (a code is not video data). */
 FERGHULTA_MUST_USE ferghulta_words_answer ferghulta_words_of_codes(uint32_t system, ferghulta_codes codes);
+
+/* The same in trim encoding: where the guard rule does not act, the trim rule brings a word beyond nominal to the
+ * nominal end. Only one rule acts on a word, so one beyond video data leaves at s or 255s - 1, not at the nominal end.
+ * Refused: 1, 6 (a code is not video data). */
+FERGHULTA_MUST_USE ferghulta_words_answer ferghulta_trimmed_words_of_codes(uint32_t system, ferghulta_codes codes);
 
 typedef struct ferghulta_decoded_answer {
     uint32_t refusal;
-    uint32_t clipped; /* how many of the three codes were beyond nominal and brought to its nearer end */
+    uint32_t clipped; /* how many of the three codes were beyond video data and brought to its nearest end */
     ferghulta_codes codes;
 } ferghulta_decoded_answer;
 
-/* R', G' and B' of nominal words. Refused: 1, 6. */
+/* R', G' and B' of words of video data, clipped to video data. Refused: 1, 6 (a word is not video data). */
 FERGHULTA_MUST_USE ferghulta_decoded_answer ferghulta_codes_of_words(uint32_t system, ferghulta_words words);
 
 /* ---- Row blocks: system (1 byte), row number (2), then Y', Cb and Cr, each a count (2) and that many words (2 each);
@@ -205,9 +215,11 @@ typedef struct ferghulta_block_answer {
     uint16_t row, samples;
 } ferghulta_block_answer;
 
-/* Reads the one block that the `length` bytes are: R, G, B of each sample go to the front of `codes`, which has room
- * for `places` codes; what lies beyond stays. Refused, from the front: 8 (fewer than 3 bytes), 1, 10; at each section
- * 8 (count missing), 9, 8 (words missing); then 11, 6, 5 (places below 3 * samples). */
+/* Reads the one block that the `length` bytes are: R, G, B of each sample, clipped to video data, go to the front of
+ * `codes`, which has room for `places` codes; what lies beyond stays. Of a row of lights a code may come back as
+ * 16s - 1 or 235s + 1: bring it to nominal where a call asks for that. Refused, from the front: 8 (fewer than 3 bytes),
+ * 1, 10; at each section 8 (count missing), 9, 8 (words missing); then 11, 6 (a word is not video data), 5 (places
+ * below 3 * samples). */
 FERGHULTA_MUST_USE FERGHULTA_NONNULL ferghulta_block_answer
 ferghulta_read_block(const uint8_t *__restrict bytes, size_t length, uint16_t *__restrict codes, size_t places);
 
@@ -242,8 +254,8 @@ FERGHULTA_MUST_USE ferghulta_picture_answer
 ferghulta_open(ferghulta_picture picture, uint32_t system, uint32_t width, uint32_t height);
 
 /* Takes a row of `count` lights, R, G, B of each sample, and writes its block, numbered by the rows accepted before, to
- * the front of `out`, which has `room` bytes; what lies beyond stays. Refused: 22, 23, then 4 (count not 3 * width),
- * 5 (room below 9 + 6 * width). */
+ * the front of `out`, which has `room` bytes; what lies beyond stays. The words of the block are nominal. Refused: 22,
+ * 23, then 4 (count not 3 * width), 5 (room below 9 + 6 * width). */
 FERGHULTA_MUST_USE FERGHULTA_NONNULL ferghulta_picture_answer
 ferghulta_row(ferghulta_picture picture, const uint16_t *__restrict lights, size_t count, uint8_t *__restrict out,
               size_t room);
@@ -303,7 +315,7 @@ FERGHULTA_MUST_USE FERGHULTA_NONNULL uint32_t ferghulta_to_progressive(const uin
 FERGHULTA_LAYOUT(ferghulta_code_answer, 8);      /* 4 + 2 + 2 */
 FERGHULTA_LAYOUT(ferghulta_span_answer, 8);      /* 4 + 4 */
 FERGHULTA_LAYOUT(ferghulta_codes_answer, 12);    /* 4 + 6 + 2 */
-FERGHULTA_LAYOUT(ferghulta_words_answer, 12);    /* 4 + 6 + 2 */
+FERGHULTA_LAYOUT(ferghulta_words_answer, 16);    /* 4 + 4 + 6 + 2 */
 FERGHULTA_LAYOUT(ferghulta_signals_answer, 16);  /* 4 + 12 */
 FERGHULTA_LAYOUT(ferghulta_decoded_answer, 16);  /* 4 + 4 + 6 + 2 */
 FERGHULTA_LAYOUT(ferghulta_block_answer, 16);    /* 4 + 4 + 4 + 4 */

@@ -4,10 +4,11 @@ A book is kept from the calls' arguments alone. Each call answers the refusal's 
 Running this file checks it against what the document says of its calls.
 """
 
+from itertools import product
 from typing import NamedTuple
 
-from exact import FULL_LIGHT, SYSTEMS, code_of_light
-from rows import LAST_ROW, REFUSED_OUTPUT, REFUSED_SYSTEM, WIDEST, block, read_block, words_of_codes
+from exact import FULL_LIGHT, SYSTEMS, code_of_light, nominal, nominal_codes, spans
+from rows import LAST_ROW, PLAIN, REFUSED_OUTPUT, REFUSED_SYSTEM, WIDEST, block, nearest_end, read_block, words_of_codes
 
 # 'What the caller hears'
 
@@ -103,7 +104,16 @@ def block_of_entry(entry):
     """The bytes that the row's call writes."""
     codes = codes_of_entry(entry)
     samples = (codes[at : at + 3] for at in range(0, len(codes), 3))
-    return block(entry.system, entry.number, [words_of_codes(entry.system, sample) for sample in samples])
+    return block(entry.system, entry.number, [words_of_codes(entry.system, PLAIN, sample).words for sample in samples])
+
+
+def lights_near(system, code):
+    """The least light of the code below one that is read, and the greatest of the code above it. A code beyond nominal counts as
+    the nominal end (request 2026-03), and so does a neighbour."""
+    codes = nominal_codes(system)
+    counted = nearest_end(codes, code)
+    below, above = (nearest_end(codes, counted + step) for step in (-1, 1))
+    return spans(system)[below - codes[0]][0], spans(system)[above - codes[0]][1]
 
 
 # What the document says of the calls.
@@ -152,15 +162,29 @@ def check_numbers():
     assert [entry.number for entry in book.entries] == [0, 1, 2, 0, 1]
 
 
+def edge_lights(system):
+    """The lights 33, 1187 and 32768, and samples of the first and the last lights of the codes at the ends of nominal."""
+    low, high = nominal(system)
+    at_ends = [light for code in (low, low + 1, low + 2, high - 2, high - 1, high) for light in spans(system)[code - low]]
+    return (33, 1187, 32768, *(light for sample in product(at_ends, repeat=3) for light in sample))
+
+
 def check_blocks():
-    """The rowlist example is a row of full light, and blocks read back within one code."""
+    """The rowlist example is a row of full light, and blocks read back within one code and within the spans around it."""
     grey = block_of_entry(Entry(1, 1, 0, (FULL_LIGHT,) * 3))
     assert grey.hex(" ") == "01 00 00 01 00 eb 00 01 00 80 00 01 00 80 00"
     for system in SYSTEMS:
-        entry = Entry(system, 2, LAST_ROW, (0, 33, 1187, 32768, 65534, FULL_LIGHT))
-        row = read_block(block_of_entry(entry), 6)
-        assert row[:3] == (system, LAST_ROW, 2)
+        lights = edge_lights(system)
+        entry = Entry(system, len(lights) // 3, LAST_ROW, lights)
+        row = read_block(block_of_entry(entry), len(lights))
+        assert row[:4] == (system, LAST_ROW, entry.width, 0)
         assert all(abs(read - code) <= 1 for read, code in zip(row.codes, codes_of_entry(entry), strict=True))
+        # Some of these codes are read back beyond both ends of nominal.
+        low, high = nominal(system)
+        assert (min(row.codes), max(row.codes)) == (low - 1, high + 1)
+        for light, read in zip(lights, row.codes, strict=True):
+            least, greatest = lights_near(system, read)
+            assert least <= light <= greatest
 
 
 def check():

@@ -48,6 +48,12 @@ def nominal_codes(system):
     return range(low, high + 1)
 
 
+def video_data(system):
+    """The video data codes and words, R', G', B', Y', Cb and Cr alike (request 2026-03)."""
+    s = SYSTEMS[system].scale
+    return range(s, 255 * s)
+
+
 # 'Light to code'
 
 FULL_LIGHT = 65535

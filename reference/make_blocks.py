@@ -11,9 +11,9 @@ from pathlib import Path
 from struct import pack
 
 import rows
-from exact import SYSTEMS, nominal, nominal_codes
+from exact import SYSTEMS, nominal_codes, video_data
 from pseudorandom import Random
-from rows import LAST_ROW, WIDEST, block, nominal_differences, read_block, words_of_codes
+from rows import LAST_ROW, PLAIN, WIDEST, block, nominal_words, read_block, words_of_codes
 
 DATA = Path(__file__).resolve().parent.parent / "crates" / "check_blocks" / "data"
 
@@ -22,11 +22,13 @@ FAULTY_PER_SYSTEM = 400
 
 
 def random_words(random, system):
-    """Words of random codes, or in half of the cases any nominal words."""
-    if random.below(2):
-        return words_of_codes(system, [random.of(nominal_codes(system)) for _ in range(3)])
-    differences = nominal_differences(system)
-    return random.of(nominal_codes(system)), random.of(differences), random.of(differences)
+    """Words of random codes, or in half of the cases any words; of video data or of nominal."""
+    of_codes, in_nominal = random.below(2), random.below(2)
+    if of_codes:
+        codes = nominal_codes(system) if in_nominal else video_data(system)
+        return words_of_codes(system, PLAIN, [random.of(codes) for _ in range(3)]).words
+    words = nominal_words(system) if in_nominal else (video_data(system),) * 3
+    return tuple(random.of(values) for values in words)
 
 
 def random_block(random, system, row, width):
@@ -65,11 +67,12 @@ def with_counts(given, width):
 
 def with_words(given, width, system):
     """Words at the ends of the ranges and beyond them, at the first and last places of each section."""
-    low, white = nominal(system)
-    peak = nominal_differences(system)[-1]
+    s = SYSTEMS[system].scale
+    ends = s, 16 * s, 235 * s, 240 * s, 255 * s - 1
+    beyond = s - 1, 16 * s - 1, 235 * s + 1, 240 * s + 1, 255 * s, 256 * s - 1, 256 * s, 0, 65535
     for at in count_places(width):
         for place in sorted({at + 2, at + 2 * width}):
-            for value in (low - 1, low, white, white + 1, peak, peak + 1, 0, 65535):
+            for value in (*ends, *beyond):
                 yield replaced(given, place, word(value))
 
 

@@ -22,13 +22,13 @@ def inputs():
     wide = random_block(random, 4, LAST_ROW, WIDEST)
     return {
         "grey": grey,
-        "clipped": block(1, 1, [(16, 240, 240), (63, 102, 240)]),
+        "clipped": block(1, 1, [(16, 240, 240), (63, 102, 240), (15, 128, 128)]),
         "system2": random_block(random, 2, 100, 3),
         "system3": random_block(random, 3, 2159, 4),
         "wide": wide,
         "empty": b"",
         "system": replaced(grey, 0, b"\5"),
-        "word": replaced(grey, 5, word(15)),
+        "word": replaced(grey, 5, word(0)),
         "end": grey[:-1],
         "count": replaced(grey, 7, word(2)),
         "row": replaced(grey, 1, word(LAST_ROW + 1)),

@@ -4,11 +4,14 @@ All numbers are unsigned, low byte first. The same bytes come at every run.
 
 - grid: Y', Cb and Cr (1 byte each) of each triple of system 1 whose R', G' and B' are at one of 40 levels, B' changing fastest.
   Level i is the code 16 + 219·i/39, fractions dropped.
-- words, words_refused: records of system (4 bytes), refusal or 0, R, G, B, Y', Cb and Cr (2 bytes each; the words 0 where refused).
+- words, trimmed, words_refused: records of system (4 bytes), refusal or 0, R, G, B, Y', Cb, Cr and the moved count (2 bytes each;
+  the last four 0 where refused). words has the answers of plain encoding and trimmed those of trim encoding, for the same codes;
+  the answers of words_refused are those of both.
 - codes, codes_refused: records of system (4 bytes), refusal or 0, Y', Cb, Cr, R, G, B and the clipped count (2 bytes each; the
   last four 0 where refused).
 """
 
+from fractions import Fraction
 from functools import partial
 from itertools import product
 from math import lcm
@@ -16,30 +19,32 @@ from pathlib import Path
 from struct import pack
 
 import rows
-from exact import SYSTEMS, nominal, nominal_codes
+from exact import INT, SYSTEMS, nominal_codes, video_data
 from pseudorandom import Random
-from rows import nominal_differences
+from rows import PLAIN, TRIM, nearest_end, nominal_words
 
 DATA = Path(__file__).resolve().parent.parent / "crates" / "check_triples" / "data"
 
 GRID_LEVELS = 40
 STEPS_PER_EDGE = 16
 MOST_GREYS = 450
-RANDOM_PER_SYSTEM = 1000
+RANDOM_VIDEO_DATA = 800
+RANDOM_NOMINAL = 300
+RANDOM_CORNERS = 300
 NEAR_HALVES = 100
+NEAR_ENDS = 3
 
 BAD_SYSTEMS = (0, 5, 257, 65537, 2**32 - 1)
+
+# The words of system 1 on the bench of request 2026-03.
+BENCH_WORDS = (16, 240, 240), (15, 128, 128)
+BENCH_WORDS_REFUSED = (0, 128, 128)
 
 
 def grid():
     levels = [16 + 219 * i // (GRID_LEVELS - 1) for i in range(GRID_LEVELS)]
     for codes in product(levels, repeat=3):
-        yield bytes(rows.words_of_codes(1, codes))
-
-
-def ranges(system):
-    """The nominal Y', Cb and Cr words."""
-    return nominal_codes(system), nominal_differences(system), nominal_differences(system)
+        yield bytes(rows.words_of_codes(1, PLAIN, codes).words)
 
 
 def corners(of):
@@ -54,12 +59,18 @@ def edges(of):
 
 
 def greys(system):
-    codes = nominal_codes(system)
+    codes = video_data(system)
     return ((code, code, code) for code in codes[:: len(codes) // MOST_GREYS + 1])
 
 
 def random_triples(random, of, count):
     return [tuple(random.of(values) for values in of) for _ in range(count)]
+
+
+def near_corners(random, of):
+    """Colours so saturated that many of their words are beyond video data."""
+    near = [(*values[: len(values) // 32], *values[-(len(values) // 32) :]) for values in of]
+    return random_triples(random, near, RANDOM_CORNERS)
 
 
 def with_component(triple, axis, value):
@@ -84,57 +95,79 @@ def near_halves(values, random, of):
             yield triple
 
 
+def nearest_along(values, i, target, triple, axis, candidates):
+    """The triple with the candidate on an axis that brings value i nearest to a target."""
+    start, after = (values(with_component(triple, axis, x))[i] for x in (0, 1))
+    if start == after:
+        return triple
+    best = nearest_end(candidates, INT((target - start) / (after - start)))
+    return with_component(triple, axis, best)
+
+
+def near_ends(values, random, of, nominal_results):
+    """Triples with a value on, one below or one above an end of video data or of its nominal range, or half-way from there to the
+    next, as far as such exist."""
+    for i in range(3):
+        ends = [end for results in (of[i], nominal_results[i]) for end in (results[0], results[-1])]
+        for end, step in product(ends, (-1, Fraction(-1, 2), 0, Fraction(1, 2), 1)):
+            for triple in random_triples(random, of, NEAR_ENDS):
+                for axis in range(3):
+                    triple = nearest_along(values, i, end + step, triple, axis, of[axis])
+                if abs(values(triple)[i] - (end + step)) < Fraction(1, 2):
+                    yield triple
+
+
+def any_triples(system, values, random, nominal_of, nominal_results):
+    """Triples of video data and of nominal, with values whose nominal ranges are the results'."""
+    of = (video_data(system),) * 3
+    for ranges in (of, nominal_of):
+        yield from corners(ranges)
+        yield from edges(ranges)
+    yield from random_triples(random, of, RANDOM_VIDEO_DATA)
+    yield from random_triples(random, nominal_of, RANDOM_NOMINAL)
+    yield from near_corners(random, of)
+    yield from near_halves(values, random, of)
+    yield from near_ends(values, random, of, nominal_results)
+
+
+def nominal_triple(system):
+    """The nominal R', G' and B' codes."""
+    return (nominal_codes(system),) * 3
+
+
 def code_triples(system, random):
-    of = (nominal_codes(system),) * 3
-    yield from corners(of)
-    yield from edges(of)
     yield from greys(system)
-    yield from random_triples(random, of, RANDOM_PER_SYSTEM)
-    yield from near_halves(partial(rows.word_values, system), random, of)
+    yield from any_triples(system, partial(rows.word_values, system), random, nominal_triple(system), nominal_words(system))
 
 
 def word_triples(system, random):
-    """Words of codes, and any nominal words, most of which no camera makes."""
-    yield from (rows.words_of_codes(system, triple) for triple in code_triples(system, random))
-    of = ranges(system)
-    yield from corners(of)
-    yield from edges(of)
-    yield from random_triples(random, of, RANDOM_PER_SYSTEM)
-    yield from near_halves(partial(rows.code_values, system), random, of)
+    """Words of codes, and any words of video data, most of which no camera makes."""
+    yield from (rows.words_of_codes(system, PLAIN, triple).words for triple in code_triples(system, random))
+    yield from any_triples(system, partial(rows.code_values, system), random, nominal_words(system), nominal_triple(system))
 
 
-def outside(of, random):
-    """Triples with one, two or three components outside their ranges: next to the range, far from it, and in the other range."""
+def outside(system, random):
+    """Triples with one, two or three components outside video data: next to it, at the ends of the timing codes, far from it."""
+    values = video_data(system)
+    s = values[0]
+    outs = s - 1, 255 * s, 0, 256 * s - 1, 256 * s, 65535
     for wrong in product((False, True), repeat=3):
-        for pick in range(4 if any(wrong) else 0):
-            outs = [(values[0] - 1, values[-1] + 1, 0, 65535) for values in of]
-            yield tuple(outs[i][pick] if wrong[i] else random.of(of[i]) for i in range(3))
+        for out in outs if any(wrong) else ():
+            yield tuple(out if wrong[i] else random.of(values) for i in range(3))
 
 
-def bad_code_triples(random):
+def bad_triples(random):
     for system in SYSTEMS:
-        of = (nominal_codes(system),) * 3
-        yield from ((system, codes) for codes in outside(of, random))
+        yield from ((system, triple) for triple in outside(system, random))
     for system in BAD_SYSTEMS:
-        yield from ((system, codes) for codes in ((100, 100, 100), (0, 0, 0), (300, 65535, 300)))
+        yield from ((system, triple) for triple in ((100, 100, 100), (0, 0, 0), (300, 65535, 300)))
 
 
-def bad_word_triples(random):
-    for system in SYSTEMS:
-        yield from ((system, words) for words in outside(ranges(system), random))
-        # Y' has the shorter range: the highest nominal colour difference is no luma.
-        peak, grey = nominal_differences(system)[-1], nominal(system)[0]
-        yield system, (peak, peak, peak)
-        yield system, (peak, grey, grey)
-    for system in BAD_SYSTEMS:
-        yield from ((system, words) for words in ((100, 100, 100), (0, 0, 0), (300, 65535, 300)))
-
-
-def words_record(system, codes):
-    words = rows.words_of_codes(system, codes)
-    if isinstance(words, int):
-        return pack("<I7H", system, words, *codes, 0, 0, 0)
-    return pack("<I7H", system, 0, *codes, *words)
+def words_record(encoding, system, codes):
+    answer = rows.words_of_codes(system, encoding, codes)
+    if isinstance(answer, int):
+        return pack("<I8H", system, answer, *codes, 0, 0, 0, 0)
+    return pack("<I8H", system, 0, *codes, *answer.words, answer.moved)
 
 
 def codes_record(system, words):
@@ -147,10 +180,14 @@ def codes_record(system, words):
 def files():
     random = Random(601_709)
     yield "grid", grid()
-    yield "words", (words_record(s, codes) for s in SYSTEMS for codes in code_triples(s, random))
-    yield "codes", (codes_record(s, words) for s in SYSTEMS for words in word_triples(s, random))
-    yield "words_refused", (words_record(*case) for case in bad_code_triples(random))
-    yield "codes_refused", (codes_record(*case) for case in bad_word_triples(random))
+    codes = [(s, codes) for s in SYSTEMS for codes in code_triples(s, random)]
+    yield "words", (words_record(PLAIN, *case) for case in codes)
+    yield "trimmed", (words_record(TRIM, *case) for case in codes)
+    words = [(s, words) for s in SYSTEMS for words in word_triples(s, random)]
+    bench = [(1, words) for words in BENCH_WORDS]
+    yield "codes", (codes_record(*case) for case in bench + words)
+    yield "words_refused", (words_record(PLAIN, *case) for case in bad_triples(random))
+    yield "codes_refused", (codes_record(*case) for case in ((1, BENCH_WORDS_REFUSED), *bad_triples(random)))
 
 
 def main():

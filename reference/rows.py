@@ -1,14 +1,15 @@
 """Document 01's triples and row blocks in exact arithmetic: whole numbers and fractions only, and nothing shared with the crates.
 
 One function for each sentence. A call that is refused answers the refusal's number in place of its result.
-Running this file checks it against the document's bench values and its rowlist example.
+Which codes and words are accepted, and the rules on words, are those of request 2026-03.
+Running this file checks it against the bench values of both and the document's rowlist example.
 """
 
 from fractions import Fraction
 from struct import pack, unpack_from
 from typing import NamedTuple
 
-from exact import INT, SYSTEMS, nominal, nominal_codes
+from exact import INT, SYSTEMS, nominal_codes, video_data
 
 # 'What the caller hears'
 
@@ -41,6 +42,30 @@ def nominal_differences(system):
     return range(16 * s, 240 * s + 1)
 
 
+def nominal_words(system):
+    """The nominal Y', Cb and Cr words."""
+    return nominal_codes(system), nominal_differences(system), nominal_differences(system)
+
+
+def are_video_data(system, triple):
+    return all(component in video_data(system) for component in triple)
+
+
+def nearest_end(values, number):
+    """The end of a range that is nearest to a number beyond it; a number of the range itself."""
+    return min(max(number, values[0]), values[-1])
+
+
+# How a code triple is encoded: with the guard rule alone, or with the trim rule beside it.
+PLAIN = "plain"
+TRIM = "trim"
+
+
+class Limited(NamedTuple):
+    words: tuple
+    moved: int
+
+
 class Clipped(NamedTuple):
     codes: tuple
     count: int
@@ -56,12 +81,29 @@ def word_values(system, codes):
     return Fraction(luma, 10000), cb, cr
 
 
-def words_of_codes(system, codes):
+def words_before_rules(system, codes):
+    """Whole numbers, of which some are below 0 or above 256s."""
+    return tuple(INT(v) for v in word_values(system, codes))
+
+
+def word_after_rules(system, encoding, nominal_range, word):
+    """The guard is tried first, then trim if it is chosen; only one of them acts."""
+    if word not in video_data(system):
+        return nearest_end(video_data(system), word)
+    if encoding == TRIM and word not in nominal_range:
+        return nearest_end(nominal_range, word)
+    return word
+
+
+def words_of_codes(system, encoding, codes):
     if system not in SYSTEMS:
         return REFUSED_SYSTEM
-    if any(code not in nominal_codes(system) for code in codes):
+    if not are_video_data(system, codes):
         return REFUSED_CODE
-    return tuple(INT(v) for v in word_values(system, codes))
+    before = words_before_rules(system, codes)
+    ranges = nominal_words(system)
+    words = tuple(word_after_rules(system, encoding, *both) for both in zip(ranges, before, strict=True))
+    return Limited(words, sum(word != given for word, given in zip(words, before, strict=True)))
 
 
 def code_values(system, words):
@@ -76,24 +118,17 @@ def code_values(system, words):
     return r, y - of_cr - of_cb, b
 
 
-def are_nominal_words(system, words):
-    y, cb, cr = words
-    differences = nominal_differences(system)
-    return y in nominal_codes(system) and cb in differences and cr in differences
-
-
 def codes_of_words(system, words):
     if system not in SYSTEMS:
         return REFUSED_SYSTEM
-    if not are_nominal_words(system, words):
+    if not are_video_data(system, words):
         return REFUSED_CODE
     return clipped(system, [INT(v) for v in code_values(system, words)])
 
 
 def clipped(system, components):
-    """The components in the nominal range, each beyond it at its nearer end, and how many were brought there."""
-    low, high = nominal(system)
-    codes = tuple(min(max(c, low), high) for c in components)
+    """The components in video data, each beyond it at its nearest end, and how many were brought there."""
+    codes = tuple(nearest_end(video_data(system), c) for c in components)
     return Clipped(codes, sum(c != code for c, code in zip(components, codes)))
 
 
@@ -163,23 +198,51 @@ def listing(given):
 
 
 def check_triples():
-    assert words_of_codes(1, (235, 16, 16)) == (63, 102, 240)
+    for encoding in (PLAIN, TRIM):
+        assert words_of_codes(1, encoding, (235, 16, 16)) == ((63, 102, 240), 0)
+        assert words_of_codes(1, encoding, (16, 16, 235)) == ((32, 240, 118), 0)
+        assert words_of_codes(1, encoding, (16, 235, 16)) == ((173, 42, 26), 0)
+        assert words_of_codes(3, encoding, (940, 64, 64)) == ((294, 387, 960), 0)
     assert codes_of_words(1, (63, 102, 240)) == ((235, 17, 16), 0)
-    assert words_of_codes(1, (16, 16, 235)) == (32, 240, 118)
     assert codes_of_words(1, (32, 240, 118)) == ((17, 16, 235), 0)
-    assert words_of_codes(1, (16, 235, 16)) == (173, 42, 26)
-    assert words_of_codes(3, (940, 64, 64)) == (294, 387, 960)
-    assert codes_of_words(1, (16, 240, 240)) == ((188, 16, 219), 1)
-    assert codes_of_words(1, (15, 128, 128)) == REFUSED_CODE
+    assert codes_of_words(1, (16, 240, 240)) == ((188, 1, 219), 1)
+    assert codes_of_words(1, (15, 128, 128)) == ((15, 15, 15), 0)
+    assert codes_of_words(1, (0, 128, 128)) == REFUSED_CODE
+
+
+def check_rules():
+    """Triples on which the rules act, worked out by hand: the words before, in plain encoding and in trim encoding."""
+    cases = (
+        # Cb is 128 + 253·224/438, above 256s: the guard acts, so trim does not.
+        (1, (1, 1, 254), (19, 257, 116), ((19, 254, 116), 1), ((19, 254, 116), 1)),
+        # Cb is 128 − 253·224/438, below 0; Y' is 235.7334.
+        (1, (254, 254, 1), (236, -1, 140), ((236, 1, 140), 1), ((235, 1, 140), 2)),
+        # Cb is 128 + 234·224/438, between nominal and the end of video data.
+        (1, (16, 16, 250), (33, 248, 117), ((33, 248, 117), 0), ((33, 240, 117), 1)),
+        # The same distance down: 128 − 234·224/438.
+        (1, (250, 250, 16), (233, 8, 139), ((233, 8, 139), 0), ((233, 16, 139), 1)),
+        # Cr is 512 + 1015·224/438 and 512 − 1015·224/438 beside the ends 4 and 1019.
+        (3, (1019, 4, 4), (271, 367, 1031), ((271, 367, 1019), 1), ((271, 367, 1019), 1)),
+        (3, (4, 1019, 1019), (752, 657, -7), ((752, 657, 4), 1), ((752, 657, 4), 1)),
+    )
+    for system, codes, before, plain, trim in cases:
+        assert words_before_rules(system, codes) == before
+        assert words_of_codes(system, PLAIN, codes) == plain
+        assert words_of_codes(system, TRIM, codes) == trim
+    for codes in ((0, 128, 128), (128, 255, 128), (128, 128, 255)):
+        assert words_of_codes(1, PLAIN, codes) == words_of_codes(1, TRIM, codes) == REFUSED_CODE
 
 
 def check_greys():
-    """A grey has its code as Y' and no colour difference, and returns."""
+    """A grey has its code as Y', which trim alone moves, and no colour difference, and returns."""
     for system in SYSTEMS:
-        for code in nominal_codes(system):
-            words = words_of_codes(system, (code, code, code))
-            assert words == (code, middle(system), middle(system))
-            assert codes_of_words(system, words) == ((code, code, code), 0)
+        m = middle(system)
+        for code in video_data(system):
+            grey = (code, code, code)
+            trimmed = nearest_end(nominal_codes(system), code)
+            assert words_of_codes(system, PLAIN, grey) == ((code, m, m), 0)
+            assert words_of_codes(system, TRIM, grey) == ((trimmed, m, m), trimmed != code)
+            assert codes_of_words(system, (code, m, m)) == (grey, 0)
 
 
 def check_blocks():
@@ -194,6 +257,7 @@ def check_blocks():
 
 def check():
     check_triples()
+    check_rules()
     check_greys()
     check_blocks()
 

@@ -1,4 +1,4 @@
--- The words of a block in their ranges: counted outside them section by section, and required of each sample.
+-- The words of a block in a range: counted outside it section by section, and required of each sample.
 -- Assumes nothing.
 use mathlib.Core.Path.{_≡_, refl, sym, ap, _∙_}
 use mathlib.Core.Bool.{Bool, true, false, _&&_, and-true, and-false, false≢true}
@@ -16,7 +16,6 @@ use Rattle.exact.proofs.Order.{below-or-not}
 use Rattle.systems.specs.declared.Range.{Range}
 use Rattle.systems.specs.Systems.{within}
 use Rattle.matrix.specs.declared.Words.{Words}
-use Rattle.matrix.specs.declared.WordRanges.{WordRanges}
 use Rattle.matrix.specs.Triples.{wordsWithin}
 use Rattle.block.specs.Read.{fieldAt, sampleAt, withinTo}
 use Rattle.block.specs.Inner.{inRange}
@@ -73,16 +72,16 @@ by-parts true true false d e f = sym (and-false (d && e))
 by-parts true false c d e f = sym (ap (λ (t : Bool). t && (c && f)) (and-false d))
 by-parts false b c d e f = refl
 
--- the samples are in their ranges where the sections are
-pub within-by-sections : (r : WordRanges) (bs : List ℕ) (w n : ℕ) → withinTo r (sampleAt bs w) n
-    ≡ (inRange (r .luma) bs 5 n && inRange (r .difference) bs (7 + 2 * w) n && inRange (r .difference) bs (9 + 4 * w) n)
+-- the samples are in the range where the sections are
+pub within-by-sections : (r : Range) (bs : List ℕ) (w n : ℕ) → withinTo r (sampleAt bs w) n
+    ≡ (inRange r bs 5 n && inRange r bs (7 + 2 * w) n && inRange r bs (9 + 4 * w) n)
 unfolding withinTo inRange
 within-by-sections r bs w zero = refl
 within-by-sections r bs w (suc n) = ap (λ (t : Bool). t && wordsWithin r (sampleAt bs w n)) (within-by-sections r bs w n)
-    ∙ by-parts (inRange (r .luma) bs 5 n) (inRange (r .difference) bs (7 + 2 * w) n) (inRange (r .difference) bs (9 + 4 * w) n) _ _ _
+    ∙ by-parts (inRange r bs 5 n) (inRange r bs (7 + 2 * w) n) (inRange r bs (9 + 4 * w) n) _ _ _
 
-module _ (r : WordRanges) (row : ℕ → Words) where
-  -- each of the first n samples is in its ranges
+module _ (r : Range) (row : ℕ → Words) where
+  -- each of the first n samples is in the range
   pub within-at : (n i : ℕ) → withinTo r row n ≡ true → i < n → wordsWithin r (row i) ≡ true
   unfolding withinTo
   within-at zero i e h = absurd (not-suc-le-zero h)

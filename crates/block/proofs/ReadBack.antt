@@ -1,4 +1,4 @@
--- The block of a row of nominal words is accepted, and reads back as these words.
+-- The block of a row of video data is accepted, and reads back as its words.
 -- Assumes nothing.
 use mathlib.Core.Path.{_≡_, refl, sym, ap, _∙_}
 use mathlib.Core.Bool.{Bool, true}
@@ -10,9 +10,9 @@ use lib.ListN.{length, getD, drop}
 use borrow.Author.Tests.{le-leb, eq-eqb}
 use Rattle.exact.specs.Outcome.{accepted}
 use Rattle.systems.specs.declared.System.{System}
-use Rattle.systems.specs.Systems.{named, matrix, scale, nominal}
+use Rattle.systems.specs.Systems.{named, matrix, scale, videoData}
 use Rattle.matrix.specs.declared.Clipped.{Clipped}
-use Rattle.matrix.specs.Triples.{_plus_, codesAt, nominalWords, wordsWithin}
+use Rattle.matrix.specs.Triples.{_plus_, codesAt, wordsWithin}
 use Rattle.matrix.proofs.Tested.{twelve-bits}
 use Rattle.block.specs.Block.{block, sampleOf}
 use Rattle.block.specs.Read.{fieldAt, sectionAt, widthOk, sections, walk, sampleAt, withinTo, judge, decoded, rgb, codesTo, clipsTo, rowOf, headerOf, sliceAfter}
@@ -55,16 +55,16 @@ all-walked bs w y size some most known low luma cb cr =
       eq-eqb (length bs) (9 + 6 * w) size,
     )
 
--- a row of w nominal samples
-pub record NominalRow (y : System) (w : ℕ) (ys cbs crs : List ℕ) : Type 0 where
+-- a row of w samples of video data
+pub record VideoRow (y : System) (w : ℕ) (ys cbs crs : List ℕ) : Type 0 where
   pub some : 1 ≤ w
   pub most : w ≤ 7680
   pub luma-count : length ys ≡ w
   pub cb-count : length cbs ≡ w
   pub cr-count : length crs ≡ w
-  pub nominal : (i : ℕ) → i < w → wordsWithin (nominalWords y) (sampleOf ys cbs crs i) ≡ true
+  pub words : (i : ℕ) → i < w → wordsWithin (videoData y) (sampleOf ys cbs crs i) ≡ true
 
-module _ (n row w : ℕ) (y : System) (ys cbs crs : List ℕ) (good : NominalRow y w ys cbs crs) where
+module _ (n row w : ℕ) (y : System) (ys cbs crs : List ℕ) (good : VideoRow y w ys cbs crs) where
   fields : Fields (block n row ys cbs crs) n row w ys cbs crs
   fields = block-fields n row w ys cbs crs (good .luma-count) (good .cb-count) (good .cr-count)
 
@@ -74,17 +74,17 @@ module _ (n row w : ℕ) (y : System) (ys cbs crs : List ℕ) (good : NominalRow
   -- the words of sample i read back
   pub block-samples : (i : ℕ) → i < w → sampleAt (block n row ys cbs crs) w i ≡ sampleOf ys cbs crs i
   block-samples i h =
-      let m = twelve-bits y (sampleOf ys cbs crs i) (good .nominal i h) in
+      let m = twelve-bits y (sampleOf ys cbs crs i) (good .words i h) in
       let luma = fields .luma i h (omega (arith, m .y-high)) in
       let cb = fields .cb i h (omega (arith, m .cb-high)) in
       let cr = fields .cr i h (omega (arith, m .cr-high)) in
       λ k. record { y = luma k; cb = cb k; cr = cr k }
 
   decoded-back : (i : ℕ) → i < w → rowOf y (block n row ys cbs crs) w i ≡ decoded y (sampleOf ys cbs crs) i
-  decoded-back i h = ap (codesAt (matrix y) (scale y) (nominal y)) (block-samples i h)
+  decoded-back i h = ap (codesAt (matrix y) (scale y) (videoData y)) (block-samples i h)
 
-  block-nominal : withinTo (nominalWords y) (sampleAt (block n row ys cbs crs) w) w ≡ true
-  block-nominal = within-if (nominalWords y) (sampleAt (block n row ys cbs crs) w) w (λ i h. ap (wordsWithin (nominalWords y)) (block-samples i h) ∙ good .nominal i h)
+  block-words : withinTo (videoData y) (sampleAt (block n row ys cbs crs) w) w ≡ true
+  block-words = within-if (videoData y) (sampleAt (block n row ys cbs crs) w) w (λ i h. ap (wordsWithin (videoData y)) (block-samples i h) ∙ good .words i h)
 
   module _ (known : named n ≡ accepted y) (low : row ≤ 4319) where
     row-back : fieldAt (block n row ys cbs crs) 1 ≡ row
@@ -97,7 +97,7 @@ module _ (n row w : ℕ) (y : System) (ys cbs crs : List ℕ) (good : NominalRow
         let walked =
         all-walked (block n row ys cbs crs) w y block-length (good .some) (good .most) (ap named (fields .system) ∙ known) (omega (arith, row-back))
         (fields .luma-count narrow) (fields .cb-count narrow) (fields .cr-count narrow) in
-        rw (walked, block-nominal) (λ k. accepted (record { system = y; row = row-back k; samples = w }))
+        rw (walked, block-words) (λ k. accepted (record { system = y; row = row-back k; samples = w }))
 
     -- what the caller hears
     pub block-reads-back : (room : ℕ) → 3 * w ≤ room

@@ -20,7 +20,7 @@ use Rattle.block.proofs.Walking.{Sectioned, walk-accepted}
 use Rattle.block.proofs.Ranges.{within-at}
 use Rattle.block.proofs.Decoding.{length-codes, length-kept}
 
--- a judged block has its samples, no byte more, and nominal words
+-- a judged block has its samples, no byte more, and words of video data
 pub record Sound (bs : List ℕ) (b : Judged) : Type 0 where
   pub shape : Sectioned bs (b .samples)
   pub row : b .row ≤ 4319

@@ -1,4 +1,4 @@
--- Reading a row block (document 01, 'Row block' and 'What the caller hears'): what the caller hears, and the slice that it lent.
+-- Reading a row block (document 01, 'Row block' and 'What the caller hears', and request 2026-03): what the caller hears, and the slice that it lent.
 -- Definitions only.
 use Prim.Native.Nat.{ℕ, zero, suc, _+_, _*_}
 use mathlib.Core.Bool.{Bool, true, _&&_}
@@ -7,14 +7,14 @@ use lib.Dec.{leb, eqb}
 use lib.ListN.{length, getD, drop}
 use Rattle.exact.specs.Outcome.{Outcome, accepted, refused, _and-then_, require}
 use Rattle.systems.specs.declared.Codes.{Codes}
+use Rattle.systems.specs.declared.Range.{Range}
 use Rattle.systems.specs.declared.System.{System}
-use Rattle.systems.specs.Systems.{named, matrix, scale, nominal}
+use Rattle.systems.specs.Systems.{named, matrix, scale, videoData}
 use Rattle.systems.specs.Refusals.{refusal}
 use Rattle.matrix.specs.declared.Clips.{Clips}
 use Rattle.matrix.specs.declared.Clipped.{Clipped}
 use Rattle.matrix.specs.declared.Words.{Words}
-use Rattle.matrix.specs.declared.WordRanges.{WordRanges}
-use Rattle.matrix.specs.Triples.{noClips, _plus_, codesAt, nominalWords, wordsWithin}
+use Rattle.matrix.specs.Triples.{noClips, _plus_, codesAt, wordsWithin}
 use Rattle.block.specs.declared.Header.{Header}
 use Rattle.block.specs.declared.Judged.{Judged}
 use Rattle.block.specs.declared.Judgement.{Judgement}
@@ -60,14 +60,14 @@ walk bs =
 abbrev pub sampleAt : List ℕ → ℕ → ℕ → Words
 sampleAt bs w i = record { y = fieldAt bs (5 + 2 * i); cb = fieldAt bs (7 + 2 * w + 2 * i); cr = fieldAt bs (9 + 4 * w + 2 * i) }
 
--- the words of a row's first n samples are in their ranges
-unfoldable pub withinTo : WordRanges → (ℕ → Words) → ℕ → Bool
+-- the words of a row's first n samples are in a range
+unfoldable pub withinTo : Range → (ℕ → Words) → ℕ → Bool
 withinTo r sample zero = true
 withinTo r sample (suc n) = withinTo r sample n && wordsWithin r (sample n)
 
--- the words of a block that was walked are nominal
+-- the words of a block that was walked are video data
 abbrev pub wordsOk : Judged → List ℕ → Bool
-wordsOk b bs = withinTo (nominalWords (b .system)) (sampleAt bs (b .samples)) (b .samples)
+wordsOk b bs = withinTo (videoData (b .system)) (sampleAt bs (b .samples)) (b .samples)
 
 -- a block judged by itself: after the walk 6
 unfoldable pub judge : List ℕ → Outcome Judged
@@ -75,7 +75,7 @@ judge bs = walk bs and-then λ b. require (wordsOk b bs) 6 (accepted b)
 
 -- the codes of a row's samples, from their words
 abbrev pub decoded : System → (ℕ → Words) → ℕ → Clipped
-decoded y sample i = codesAt (matrix y) (scale y) (nominal y) (sample i)
+decoded y sample i = codesAt (matrix y) (scale y) (videoData y) (sample i)
 
 -- R, G and B of a sample
 abbrev pub rgb : Codes → List ℕ

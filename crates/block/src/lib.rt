@@ -1,4 +1,4 @@
-// The row block, and reading it (document 01, 'Row block').
+// The row block, and reading it (document 01, 'Row block', and request 2026-03).
 mod layout;
 
 pub use layout::LUMA_COUNT;
@@ -12,7 +12,6 @@ pub use layout::luma_word;
 pub use layout::size;
 use matrix::Clips;
 use matrix::Unclipped;
-use matrix::WordRanges;
 use matrix::Words;
 use matrix::unclipped_by;
 use systems::MOST_ROWS;
@@ -95,7 +94,7 @@ pub fn judge(bytes: &[u8]) -> Judgement
     match walk(bytes) {
         Judgement::Block(b) => {
             let system = b.system;
-            if all_in(WordRanges::nominal(system), bytes, b.samples) {
+            if all_in(system.video_data(), bytes, b.samples) {
                 Judgement::Block(b)
             } else {
                 Judgement::Refused(Refusal::Code)
@@ -199,15 +198,15 @@ fn field_at(bytes: &[u8], at: usize) -> u16
     low + 256 * high
 }
 
-// Whether the words of all three sections are in their ranges.
-fn all_in(ranges: WordRanges, bytes: &[u8], samples: u16) -> bool
+// Whether the words of all three sections are in a range.
+fn all_in(range: Range, bytes: &[u8], samples: u16) -> bool
     requires { ⌜ (size samples ≤ length (now bytes)) × (samples ≤ 7680) ⌝ }
-    ensures { λ r. ⌜ r ≡ withinTo ranges (sampleAt (now (bytes .entry)) samples) samples ⌝ }
+    ensures { λ r. ⌜ r ≡ withinTo range (sampleAt (now (bytes .entry)) samples) samples ⌝ }
 {
     let n = samples as usize;
-    let y = outside(bytes, luma_word(0), n, ranges.luma);
-    let cb = outside(bytes, cb_word(n, 0), n, ranges.difference);
-    let cr = outside(bytes, cr_word(n, 0), n, ranges.difference);
+    let y = outside(bytes, luma_word(0), n, range);
+    let cb = outside(bytes, cb_word(n, 0), n, range);
+    let cr = outside(bytes, cr_word(n, 0), n, range);
     y + cb + cr == 0
 }
 
@@ -237,7 +236,7 @@ fn decode(b: Judged, bytes: &[u8], codes: &mut [u16]) -> Header
     let system = b.system;
     let samples = b.samples as usize;
     put_unclipped(system.matrix(), system, bytes, codes, samples);
-    let clips = clip_all(system.nominal(), codes, 3 * samples);
+    let clips = clip_all(system.video_data(), codes, 3 * samples);
     Header {
         system,
         row: b.row,

@@ -1,4 +1,4 @@
--- The starred bench values of document 01, shown of the definitions: one table, one theorem.
+-- The starred bench values of document 01, with those of request 2026-03 in their places, shown of the definitions: one table, one theorem.
 -- Assumes nothing.
 use mathlib.Core.Path.{_≡_, refl}
 use mathlib.Core.List.{List, [], _∷_, map}
@@ -13,7 +13,8 @@ use Rattle.light.proofs.Spans.{span-by-ends}
 use Rattle.light.specs.Light.{codeOfLight, spanOfCode}
 use Rattle.signals.specs.Signals.{signalCodes}
 use Rattle.exact.specs.Signed.{rounded}
-use Rattle.matrix.specs.Triples.{wordsAt, codesAt, wordsOfCodes, codesOfWords}
+use Rattle.matrix.specs.declared.Encoding.the-variants.{Plain}
+use Rattle.matrix.specs.Triples.{limited, codesAt, wordsOfCodes, codesOfWords}
 
 -- what is given, with its system: a light, a code's span, a signal by its 32 bits in all three components, R, G and B codes, or
 -- Y', Cb and Cr words
@@ -31,7 +32,8 @@ answer (span n d) = spanOfCode n d and-then λ s. accepted (s .least ∷ s .grea
 answer (signal n bits) =
     let e = ofBits binary32 bits in
     signalCodes n (record { r = e; g = e; b = e }) and-then λ c. accepted (c .r ∷ c .g ∷ c .b ∷ [])
-answer (codes n r g b) = wordsOfCodes n (record { r = r; g = g; b = b }) and-then λ w. accepted (w .y ∷ w .cb ∷ w .cr ∷ [])
+answer (codes n r g b) =
+    wordsOfCodes n Plain (record { r = r; g = g; b = b }) and-then λ l. accepted (l .words .y ∷ l .words .cb ∷ l .words .cr ∷ [])
 answer (words n y cb cr) =
     codesOfWords n (record { y = y; cb = cb; cr = cr }) and-then λ c. accepted (c .codes .r ∷ c .codes .g ∷ c .codes .b ∷ c .clips .total ∷ [])
 
@@ -58,8 +60,9 @@ table =
     ∷ row (words 1 63 102 240) (235 ∷ 17 ∷ 16 ∷ 0 ∷ [])
     ∷ row (codes 1 16 235 16) (173 ∷ 42 ∷ 26 ∷ [])
     ∷ row (codes 3 940 64 64) (294 ∷ 387 ∷ 960 ∷ [])
-    ∷ row (words 1 16 240 240) (188 ∷ 16 ∷ 219 ∷ 1 ∷ [])
-    ∷ record { given = words 1 15 128 128; result = refused 6 }
+    ∷ row (words 1 16 240 240) (188 ∷ 1 ∷ 219 ∷ 1 ∷ [])
+    ∷ row (words 1 15 128 128) (15 ∷ 15 ∷ 15 ∷ 0 ∷ [])
+    ∷ record { given = words 1 0 128 128; result = refused 6 }
     ∷ []
 
 span-of-17 : (leastLight Bt709Bits8 17 ≡ 34) × (greatestLight Bt709Bits8 17 ≡ 99)
@@ -67,5 +70,5 @@ unfolding INT greatest dark linear reaches curved codeOf code
 span-of-17 = span-by-ends Bt709Bits8 17 33 99 (lit< tt) refl refl (lit< tt) (lit≤ tt)
 
 bench-values : map (λ r. answer (r .given)) table ≡ map (λ r. r .result) table
-unfolding INT greatest dark linear reaches curved codeOf code ofBits rounded wordsAt codesAt
+unfolding INT greatest dark linear reaches curved codeOf code ofBits rounded limited codesAt
 bench-values = rw (span-of-17 .0, span-of-17 .1)

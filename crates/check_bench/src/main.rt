@@ -1,9 +1,10 @@
-// The bench values of document 01, run through the public calls, a line each. proofs/Bench.antt has the starred ones as a theorem.
+// The bench values of document 01, with those of request 2026-03 in their places, run through the public calls, a line each. proofs/Bench.antt has the starred ones as a theorem.
 use libc::STDOUT_FILENO;
 use light::CodeSpan;
 use light::LightCode;
 use matrix::Decoded;
 use matrix::Encoded;
+use matrix::Encoding;
 use matrix::Words;
 use signals::Quantised;
 use signals::Signals;
@@ -32,6 +33,7 @@ fn main() {
     of_codes(3, 940, 64, 64);
     of_words(1, 16, 240, 240);
     of_words(1, 15, 128, 128);
+    of_words(1, 0, 128, 128);
 }
 
 fn ends(system: u32) {
@@ -79,8 +81,8 @@ fn of_codes(system: u32, r: u16, g: u16, b: u16) {
     given(system, b" codes");
     three(r, g, b);
     io::write_all(STDOUT_FILENO, b":");
-    match matrix::words_of_codes(system, Codes { r, g, b }) {
-        Encoded::Words(w) => three(w.y, w.cb, w.cr),
+    match matrix::words_of_codes(system, Encoding::Plain, Codes { r, g, b }) {
+        Encoded::Words(l) => three(l.words.y, l.words.cb, l.words.cr),
         Encoded::Refused(r) => refused(r),
     }
     io::write_all(STDOUT_FILENO, b"\n");

@@ -8,6 +8,9 @@ use lib.ListN.{getD}
 use Rattle.exact.specs.Outcome.{Outcome, accepted, refused}
 use Rattle.systems.specs.declared.Codes.{Codes}
 use Rattle.matrix.specs.declared.Clipped.{Clipped}
+use Rattle.matrix.specs.declared.Encoding.{Encoding}
+use Rattle.matrix.specs.declared.Encoding.the-variants.{Plain}
+use Rattle.matrix.specs.declared.Limited.{Limited}
 use Rattle.matrix.specs.declared.Words.{Words}
 use Rattle.matrix.specs.Triples.{wordsOfCodes, codesOfWords}
 use Rattle.check_records.specs.Records.{u16At, u32At}
@@ -27,17 +30,17 @@ wordsIn bs i = record { y = u16At bs i; cb = u16At bs (i + 2); cr = u16At bs (i 
 abbrev pub codesIn : List ℕ → ℕ → Codes
 codesIn bs i = record { r = u16At bs i; g = u16At bs (i + 2); b = u16At bs (i + 4) }
 
--- codes to words: the record of 18 bytes at a place
+-- codes to words: the record of 20 bytes at a place
 abbrev pub wordsCase : List ℕ → ℕ → WordsCase
-wordsCase bs i = record { system = u32At bs i; refusal = u16At bs (i + 4); codes = codesIn bs (i + 6); words = wordsIn bs (i + 12) }
+wordsCase bs i = record { system = u32At bs i; refusal = u16At bs (i + 4); codes = codesIn bs (i + 6); words = wordsIn bs (i + 12); count = u16At bs (i + 18) }
 
--- the call's answer is the record's: its words where the refusal is 0, or its refusal
-abbrev pub wordsAgree : Outcome Words → WordsCase → Bool
-wordsAgree (accepted w) c = eqb (c .refusal) 0 && sameWords w (c .words)
+-- the call's answer is the record's: its words and moved count where the refusal is 0, or its refusal
+abbrev pub wordsAgree : Outcome Limited → WordsCase → Bool
+wordsAgree (accepted l) c = eqb (c .refusal) 0 && (eqb (l .moved) (c .count) && sameWords (l .words) (c .words))
 wordsAgree (refused n) c = eqb n (c .refusal)
 
-abbrev pub wordsMet : WordsCase → Bool
-wordsMet c = wordsAgree (wordsOfCodes (c .system) (c .codes)) c
+abbrev pub wordsMet : Encoding → WordsCase → Bool
+wordsMet e c = wordsAgree (wordsOfCodes (c .system) e (c .codes)) c
 
 -- words to codes: the record of 20 bytes at a place
 abbrev pub codesCase : List ℕ → ℕ → CodesCase
@@ -62,17 +65,17 @@ gridCodes i = record { r = level (i / 1600); g = level (i / 40); b = level i }
 abbrev pub gridWords : List ℕ → ℕ → Words
 gridWords bs i = record { y = getD bs i 0; cb = getD bs (i + 1) 0; cr = getD bs (i + 2) 0 }
 
--- the call accepts, with these words
-abbrev pub gives : Outcome Words → Words → Bool
-gives (accepted w) v = sameWords w v
+-- the call accepts, with these words, and moves none
+abbrev pub gives : Outcome Limited → Words → Bool
+gives (accepted l) v = eqb (l .moved) 0 && sameWords (l .words) v
 gives (refused n) v = false
 
 -- whether record i of each file is met
-abbrev pub wordsAt : List ℕ → ℕ → Bool
-wordsAt bs i = wordsMet (wordsCase bs (18 * i))
+abbrev pub wordsAt : Encoding → List ℕ → ℕ → Bool
+wordsAt e bs i = wordsMet e (wordsCase bs (20 * i))
 
 abbrev pub codesAt : List ℕ → ℕ → Bool
 codesAt bs i = codesMet (codesCase bs (20 * i))
 
 abbrev pub gridAt : List ℕ → ℕ → Bool
-gridAt bs i = gives (wordsOfCodes 1 (gridCodes i)) (gridWords bs (3 * i))
+gridAt bs i = gives (wordsOfCodes 1 Plain (gridCodes i)) (gridWords bs (3 * i))

@@ -1,13 +1,15 @@
-// Words of the codes on a grid of system 1, against the file 'grid'.
+// Words of the nominal codes on a grid of system 1, of which no rule moves one, against the file 'grid'.
 ghost use mathlib.Core.Path.{_≡_};
 ghost use Prim.Native.Nat.{_+_, _≤_};
 ghost use lib.ListN.{length};
+ghost use Rattle.matrix.specs.declared.Encoding.the-variants.{Plain};
 ghost use Rattle.matrix.specs.Triples.{wordsOfCodes};
 ghost use Rattle.check_records.specs.Records.{tallyOf};
 ghost use Rattle.check_triples.specs.Cases.{level, gridCodes, gridWords, gives, gridAt};
 use crate::same;
 use check_records::Tally;
 use matrix::Encoded;
+use matrix::Encoding;
 use matrix::Words;
 use systems::Codes;
 
@@ -63,10 +65,10 @@ fn wide(byte: u8) -> u16
 }
 
 fn has_words(codes: Codes, words: Words) -> bool
-    ensures { λ r. ⌜ r ≡ gives (wordsOfCodes 1 codes) words ⌝ }
+    ensures { λ r. ⌜ r ≡ gives (wordsOfCodes 1 Plain codes) words ⌝ }
 {
-    match matrix::words_of_codes(1, codes) {
-        Encoded::Words(w) => same::words(w, words),
+    match matrix::words_of_codes(1, Encoding::Plain, codes) {
+        Encoded::Words(found) => (found.moved == 0) & same::words(found.words, words),
         Encoded::Refused(_) => false,
     }
 }

@@ -6,6 +6,8 @@ mod grid;
 mod same;
 mod words;
 
+use matrix::Encoding;
+
 fn main() {
     check_grid();
     check_words();
@@ -22,7 +24,9 @@ fn check_grid() {
 fn check_words() {
     let mut buf = [0u8; 262144];
     let n = check_records::read(b"words", &mut buf);
-    words::compare(&buf[..n]).print(b"words");
+    words::compare(Encoding::Plain, &buf[..n]).print(b"words");
+    let m = check_records::read(b"trimmed", &mut buf);
+    words::compare(Encoding::Trim, &buf[..m]).print(b"words trimmed");
 }
 
 fn check_codes() {
@@ -34,7 +38,8 @@ fn check_codes() {
 fn check_refusals() {
     let mut buf = io::buffer();
     let n = check_records::read(b"words_refused", &mut buf);
-    words::compare(&buf[..n]).print(b"words refused");
+    words::compare(Encoding::Plain, &buf[..n]).print(b"words refused");
+    words::compare(Encoding::Trim, &buf[..n]).print(b"trimmed refused");
     let m = check_records::read(b"codes_refused", &mut buf);
     codes::compare(&buf[..m]).print(b"codes refused");
 }

@@ -1,4 +1,4 @@
-// Codes to words, against the files 'words' and 'words_refused'.
+// Codes to words, against the files 'words', 'trimmed' and 'words_refused'.
 ghost use mathlib.Core.Path.{_≡_};
 ghost use Prim.Native.Nat.{_+_, _≤_};
 ghost use lib.ListN.{length};
@@ -11,32 +11,34 @@ use check_records::Tally;
 use check_records::u16_at;
 use check_records::u32_at;
 use matrix::Encoded;
+use matrix::Encoding;
 use matrix::Words;
 use systems::Codes;
 
-// One record: codes, and the words that they have in a system, or the number of the refusal.
+// One record: codes, and the words and the moved count that they have in a system, or the number of the refusal.
 struct Case {
     system: u32,
     refusal: u32,
     codes: Codes,
     words: Words,
+    count: u32,
 }
 
-// Compares the answer for each record with it.
-pub fn compare(records: &[u8]) -> Tally
-    ensures { λ r. ⌜ r ≡ tallyOf 18 wordsAt (now (records .entry)) ⌝ }
+// Compares an encoding's answer for each record with it.
+pub fn compare(encoding: Encoding, records: &[u8]) -> Tally
+    ensures { λ r. ⌜ r ≡ tallyOf 20 (wordsAt encoding) (now (records .entry)) ⌝ }
 {
     let mut tally = Tally::NONE;
     let mut i = 0;
-    while i < records.len() / 18 {
-        tally = tally.with(case_at(records, 18 * i).is_met());
+    while i < records.len() / 20 {
+        tally = tally.with(case_at(records, 20 * i).is_met(encoding));
         i += 1;
     }
-    tally.ended(records.len() % 18)
+    tally.ended(records.len() % 20)
 }
 
 fn case_at(records: &[u8], at: usize) -> Case
-    requires { ⌜ at + 18 ≤ length (now records) ⌝ }
+    requires { ⌜ at + 20 ≤ length (now records) ⌝ }
     ensures { λ r. ⌜ r ≡ wordsCase (now (records .entry)) at ⌝ }
 {
     Case {
@@ -44,15 +46,19 @@ fn case_at(records: &[u8], at: usize) -> Case
         refusal: wide(u16_at(records, at + 4)),
         codes: fields::codes(records, at + 6),
         words: fields::words(records, at + 12),
+        count: wide(u16_at(records, at + 18)),
     }
 }
 
 impl Case {
-    fn is_met(self) -> bool
-        ensures { λ r. ⌜ r ≡ wordsMet self ⌝ }
+    fn is_met(self, encoding: Encoding) -> bool
+        ensures { λ r. ⌜ r ≡ wordsMet encoding self ⌝ }
     {
-        match matrix::words_of_codes(self.system, self.codes) {
-            Encoded::Words(w) => (self.refusal == 0) & same::words(w, self.words),
+        match matrix::words_of_codes(self.system, encoding, self.codes) {
+            Encoded::Words(found) => {
+                let same = same::words(found.words, self.words);
+                (self.refusal == 0) & ((found.moved == self.count) & same)
+            }
             Encoded::Refused(refusal) => refusal.number() == self.refusal,
         }
     }

@@ -1,5 +1,5 @@
 -- The samples of the files that reference/zimg_rows.c makes, and how near the conversion is to them. Definitions only.
-use Prim.Native.Nat.{ℕ, zero, suc, _+_, _*_, _-_, _/_, _%_, min, max}
+use Prim.Native.Nat.{ℕ, zero, suc, _+_, _*_, _-_, _/_, _%_}
 use mathlib.Core.Bool.{Bool, false, cond}
 use mathlib.Core.List.{List}
 use lib.Dec.{eqb, leb}
@@ -7,6 +7,8 @@ use lib.ListN.{length}
 use Rattle.exact.specs.Outcome.{Outcome, accepted, refused}
 use Rattle.systems.specs.declared.Codes.{Codes}
 use Rattle.matrix.specs.declared.Clipped.{Clipped}
+use Rattle.matrix.specs.declared.Encoding.the-variants.{Plain}
+use Rattle.matrix.specs.declared.Limited.{Limited}
 use Rattle.matrix.specs.declared.Words.{Words}
 use Rattle.matrix.specs.Triples.{wordsOfCodes, codesOfWords}
 use Rattle.check_records.specs.Records.{u16At, none, tallied, scaleOf}
@@ -43,34 +45,27 @@ nearer f a b = record { same = tallied (f .same) (eqb (apart a b) 0); near = tal
 unfoldable pub off : Nearness → Nearness
 off f = record { same = tallied (tallied (tallied (f .same) false) false) false; near = tallied (tallied (tallied (f .near) false) false) false }
 
--- a code brought to the nearer end of the nominal range, and whether it was beyond it
-abbrev pub nominal : ℕ → ℕ → ℕ
-nominal n c = min (max c (16 * scaleOf n)) (235 * scaleOf n)
-
-abbrev pub beyond : ℕ → ℕ → ℕ
-beyond n c = cond (eqb (nominal n c) c) 0 1
-
 -- our words beside zimg's
-abbrev pub wordsNear : Outcome Words → Nearness → Words → Nearness
-wordsNear (accepted w) f v = nearer (nearer (nearer f (w .y) (v .y)) (w .cb) (v .cb)) (w .cr) (v .cr)
+abbrev pub wordsNear : Outcome Limited → Nearness → Words → Nearness
+wordsNear (accepted l) f v = nearer (nearer (nearer f (l .words .y) (v .y)) (l .words .cb) (v .cb)) (l .words .cr) (v .cr)
 wordsNear (refused k) f v = off f
 
--- our codes beside zimg's, which it does not clip
-abbrev pub codesNear : ℕ → Outcome Clipped → Nearness → Codes → Nearness
-codesNear n (accepted c) f d = nearer (nearer (nearer f (c .codes .r) (nominal n (d .r))) (c .codes .g) (nominal n (d .g))) (c .codes .b) (nominal n (d .b))
-codesNear n (refused k) f d = off f
+-- our codes beside zimg's
+abbrev pub codesNear : Outcome Clipped → Nearness → Codes → Nearness
+codesNear (accepted c) f d = nearer (nearer (nearer f (c .codes .r) (d .r)) (c .codes .g) (d .g)) (c .codes .b) (d .b)
+codesNear (refused k) f d = off f
 
--- our clipped count is the number of zimg's codes beyond the nominal range
-abbrev pub countMet : Outcome Clipped → ℕ → Bool
-countMet (accepted c) k = eqb (c .clips .total) k
-countMet (refused n) k = false
+-- no code of ours is clipped
+abbrev pub unclipped : Outcome Clipped → Bool
+unclipped (accepted c) = eqb (c .clips .total) 0
+unclipped (refused k) = false
 
 -- the comparison after one sample more
 unfoldable pub compared : ℕ → Comparison → Sample → Comparison
 compared n f s = record {
-  words = wordsNear (wordsOfCodes n (s .given)) (f .words) (s .words);
-  codes = codesNear n (codesOfWords n (s .words)) (f .codes) (s .codes);
-  clipped = tallied (f .clipped) (countMet (codesOfWords n (s .words)) (beyond n (s .codes .r) + beyond n (s .codes .g) + beyond n (s .codes .b)));
+  words = wordsNear (wordsOfCodes n Plain (s .given)) (f .words) (s .words);
+  codes = codesNear (codesOfWords n (s .words)) (f .codes) (s .codes);
+  clipped = tallied (f .clipped) (unclipped (codesOfWords n (s .words)));
 }
 
 unfoldable pub comparedTo : ℕ → List ℕ → ℕ → Comparison

@@ -1,16 +1,16 @@
 // The comparison of a system's samples: our words of the codes that zimg was given beside its words, our codes of its words beside
-// its codes, each brought to the nearer end of the nominal range, and our clipped count beside the number of its codes beyond it.
+// its codes; and none of ours is clipped, since codes that are one off nominal at most are video data.
 ghost use mathlib.Core.Path.{_≡_};
+ghost use Rattle.matrix.specs.declared.Encoding.the-variants.{Plain};
 ghost use Rattle.matrix.specs.Triples.{wordsOfCodes, codesOfWords};
-ghost use Rattle.check_zimg.specs.Samples.{wordsNear, codesNear, countMet, compared, ended, comparisonOf};
+ghost use Rattle.check_zimg.specs.Samples.{wordsNear, codesNear, unclipped, compared, ended, comparisonOf};
 use crate::nearness::Nearness;
-use crate::nominal::count_beyond;
-use crate::nominal::nominal;
 use crate::sample;
 use crate::sample::Sample;
 use check_records::Tally;
 use matrix::Decoded;
 use matrix::Encoded;
+use matrix::Encoding;
 use matrix::Words;
 use systems::Codes;
 
@@ -49,8 +49,7 @@ impl Comparison {
         Comparison {
             words: with_words(self.words, system, sample.given, words),
             codes: with_codes(self.codes, system, words, codes),
-            clipped: self.clipped
-                .with(has_count(system, words, count_beyond(system, codes))),
+            clipped: self.clipped.with(is_unclipped(system, words)),
         }
     }
 
@@ -70,37 +69,40 @@ impl Comparison {
 }
 
 fn with_words(found: Nearness, system: u32, codes: Codes, theirs: Words) -> Nearness
-    ensures { λ r. ⌜ r ≡ wordsNear (wordsOfCodes system codes) found theirs ⌝ }
+    ensures { λ r. ⌜ r ≡ wordsNear (wordsOfCodes system Plain codes) found theirs ⌝ }
 {
-    match matrix::words_of_codes(system, codes) {
-        Encoded::Words(ours) => found
-            .with(ours.y, theirs.y)
-            .with(ours.cb, theirs.cb)
-            .with(ours.cr, theirs.cr),
+    match matrix::words_of_codes(system, Encoding::Plain, codes) {
+        Encoded::Words(limited) => {
+            let ours = limited.words;
+            found
+                .with(ours.y, theirs.y)
+                .with(ours.cb, theirs.cb)
+                .with(ours.cr, theirs.cr)
+        }
         Encoded::Refused(_) => found.off(),
     }
 }
 
 fn with_codes(found: Nearness, system: u32, words: Words, theirs: Codes) -> Nearness
-    ensures { λ r. ⌜ r ≡ codesNear system (codesOfWords system words) found theirs ⌝ }
+    ensures { λ r. ⌜ r ≡ codesNear (codesOfWords system words) found theirs ⌝ }
 {
     match matrix::codes_of_words(system, words) {
         Decoded::Codes(clipped) => {
             let ours = clipped.codes;
             found
-                .with(ours.r, nominal(system, theirs.r))
-                .with(ours.g, nominal(system, theirs.g))
-                .with(ours.b, nominal(system, theirs.b))
+                .with(ours.r, theirs.r)
+                .with(ours.g, theirs.g)
+                .with(ours.b, theirs.b)
         }
         Decoded::Refused(_) => found.off(),
     }
 }
 
-fn has_count(system: u32, words: Words, count: u32) -> bool
-    ensures { λ r. ⌜ r ≡ countMet (codesOfWords system words) count ⌝ }
+fn is_unclipped(system: u32, words: Words) -> bool
+    ensures { λ r. ⌜ r ≡ unclipped (codesOfWords system words) ⌝ }
 {
     match matrix::codes_of_words(system, words) {
-        Decoded::Codes(clipped) => clipped.clips.total == count,
+        Decoded::Codes(clipped) => clipped.clips.total == 0,
         Decoded::Refused(_) => false,
     }
 }

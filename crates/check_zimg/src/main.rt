@@ -1,8 +1,7 @@
 // Compares the conversion with rows that zimg made, which reference/zimg_rows.c describes. For each system it writes how many of
-// zimg's words and codes differ from ours, how many by more than one, and in how many samples other components were clipped.
+// zimg's words and codes differ from ours, how many by more than one, and in how many samples a component of ours was clipped.
 mod comparison;
 mod nearness;
-mod nominal;
 mod sample;
 
 use check_records::Tally;
@@ -24,7 +23,7 @@ fn check(system: u32, name: &[u8]) {
     let codes = found.codes;
     print(system, codes.same, b"codes");
     print(system, codes.near, b"codes within one");
-    print(system, found.clipped, b"clipped counts");
+    print(system, found.clipped, b"samples unclipped");
 }
 
 // Writes a line such as 'system 1 words 24000 compared, 3 differ'.

@@ -1,12 +1,13 @@
 -- A whole number as the difference of two naturals, `subℕ a b`: sums and multiples keep that form, so that an equation of whole numbers is one of naturals.
 -- Assumes nothing.
 use mathlib.Core.Path.{_≡_, refl, sym, ap, _∙_}
+use mathlib.Core.Bool.{false≢true}
 use mathlib.Core.Logic.{_⊎_, inl, inr}
 use Prim.Native.Nat.{ℕ, zero, suc, _+_, _*_, _-_, _≤_, _<_, zero-le}
 use native.Mathlib.Omega.{arith}
 use borrow.Author.Tests.{lt-ltb, le-ltb}
 use lib.Dec.{le→leb}
-use lib.Signed.{_≤ℤ_}
+use lib.Signed.{_≤ℤ_, nonNeg}
 use lib.IntN.{ℤ, pos, negsuc, negℤ, natAbs, subℕ, _+ℤ_, _-ℤ_, _*ℤ_, zero-*ℤ, *ℤ-zero, *ℤ-negsuc, *ℤ-comm}
 use Rattle.exact.proofs.Order.{below-or-not}
 
@@ -87,6 +88,13 @@ sub-mul a b k = elim (below-or-not a b) [
 pub negated : (k : ℕ) (z : ℤ) → negℤ (pos k) *ℤ z ≡ negℤ (z *ℤ pos k)
 negated zero z = zero-*ℤ z ∙ sym (ap negℤ (*ℤ-zero z))
 negated (suc k) z = *ℤ-comm (negsuc k) z ∙ *ℤ-negsuc z k
+
+-- a difference that is a natural
+pub sub-is : (a b k : ℕ) → subℕ a b ≡ pos k → a ≡ k + b
+sub-is a b k e = elim (below-or-not a b) [
+  | inl h ↦ absurd (false≢true (ap nonNeg (sym (sub-neg a b h) ∙ e)))
+  | inr h ↦ let q : a - b ≡ k = ap natAbs (sym (sub-pos a b h) ∙ e) in omega arith
+]
 
 pub sub-size : (a b k : ℕ) → a ≤ b + k → b ≤ a + k → natAbs (subℕ a b) ≤ k
 sub-size a b k h l = elim (below-or-not a b) [

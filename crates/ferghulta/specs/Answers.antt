@@ -9,7 +9,7 @@ use Rattle.systems.specs.declared.Codes.{Codes}
 use Rattle.systems.specs.Systems.{number}
 use Rattle.light.specs.declared.Span.{Span}
 use Rattle.signals.specs.declared.Signals.{Signals}
-use Rattle.matrix.specs.declared.Words.{Words}
+use Rattle.matrix.specs.declared.Limited.{Limited}
 use Rattle.matrix.specs.declared.Clipped.{Clipped}
 use Rattle.block.specs.declared.Header.{Header}
 use Rattle.ferghulta.specs.declared.calls.CodeAnswer.{CodeAnswer}
@@ -42,9 +42,9 @@ abbrev pub signalsAnswer : Outcome Signals → SignalsAnswer
 signalsAnswer (accepted e) = record { refusal = 0; signals = e }
 signalsAnswer (refused n) = record { refusal = n; signals = record { r = positiveZero; g = positiveZero; b = positiveZero } }
 
-abbrev pub wordsAnswer : Outcome Words → WordsAnswer
-wordsAnswer (accepted w) = record { refusal = 0; words = w }
-wordsAnswer (refused n) = record { refusal = n; words = record { y = 0; cb = 0; cr = 0 } }
+abbrev pub wordsAnswer : Outcome Limited → WordsAnswer
+wordsAnswer (accepted l) = record { refusal = 0; moved = l .moved; words = l .words }
+wordsAnswer (refused n) = record { refusal = n; moved = 0; words = record { y = 0; cb = 0; cr = 0 } }
 
 abbrev pub decodedAnswer : Outcome Clipped → DecodedAnswer
 decodedAnswer (accepted c) = record { refusal = 0; clipped = c .clips .total; codes = c .codes }

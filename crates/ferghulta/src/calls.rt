@@ -3,6 +3,7 @@ ghost use mathlib.Core.Path.{_≡_};
 ghost use lib.ListN.{length};
 ghost use Rattle.light.specs.Light.{codeOfLight, spanOfCode};
 ghost use Rattle.signals.specs.Signals.{signalCodes, codeSignals};
+ghost use Rattle.matrix.specs.declared.Encoding.the-variants.{Plain, Trim};
 ghost use Rattle.matrix.specs.Triples.{wordsOfCodes, codesOfWords};
 ghost use Rattle.block.specs.Read.{headerOf, sliceAfter};
 ghost use Rattle.ferghulta.specs.Answers.{codeAnswer, spanAnswer, codesAnswer, signalsAnswer, wordsAnswer, decodedAnswer, blockAnswer};
@@ -12,6 +13,7 @@ use light::LightCode;
 use light::Span;
 use matrix::Decoded;
 use matrix::Encoded;
+use matrix::Encoding;
 use matrix::Words;
 use signals::Quantised;
 use signals::Restored;
@@ -45,6 +47,7 @@ pub struct SignalsAnswer {
 #[repr(C)]
 pub struct WordsAnswer {
     pub refusal: u32,
+    pub moved: u32,
     pub words: Words,
 }
 
@@ -130,12 +133,33 @@ pub extern "C" fn ferghulta_signals_of_codes(system: u32, codes: Codes) -> Signa
 
 #[no_mangle]
 pub extern "C" fn ferghulta_words_of_codes(system: u32, codes: Codes) -> WordsAnswer
-    ensures { λ r. ⌜ r ≡ wordsAnswer (wordsOfCodes system codes) ⌝ }
+    ensures { λ r. ⌜ r ≡ wordsAnswer (wordsOfCodes system Plain codes) ⌝ }
 {
-    match matrix::words_of_codes(system, codes) {
-        Encoded::Words(words) => WordsAnswer { refusal: 0, words },
+    encode(system, Encoding::Plain, codes)
+}
+
+#[no_mangle]
+pub extern "C" fn ferghulta_trimmed_words_of_codes(system: u32, codes: Codes) -> WordsAnswer
+    ensures { λ r. ⌜ r ≡ wordsAnswer (wordsOfCodes system Trim codes) ⌝ }
+{
+    encode(system, Encoding::Trim, codes)
+}
+
+fn encode(system: u32, encoding: Encoding, codes: Codes) -> WordsAnswer
+    ensures { λ r. ⌜ r ≡ wordsAnswer (wordsOfCodes system encoding codes) ⌝ }
+{
+    match matrix::words_of_codes(system, encoding, codes) {
+        Encoded::Words(l) => {
+            let words = l.words;
+            WordsAnswer {
+                refusal: 0,
+                moved: l.moved,
+                words,
+            }
+        }
         Encoded::Refused(r) => WordsAnswer {
             refusal: r.number(),
+            moved: 0,
             words: Words { y: 0, cb: 0, cr: 0 },
         },
     }

@@ -2,11 +2,11 @@
 ghost use mathlib.Core.Path.{_≡_};
 ghost use Rattle.ferghulta.specs.Version.{version};
 
-const MAJOR: u32 = 1;
+const MAJOR: u32 = 2;
 
-const MINOR: u32 = 2;
+const MINOR: u32 = 0;
 
-const PATCH: u32 = 1;
+const PATCH: u32 = 0;
 
 #[no_mangle]
 pub extern "C" fn ferghulta_version() -> u32

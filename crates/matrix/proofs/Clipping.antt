@@ -1,4 +1,4 @@
--- Components brought to the nominal range, and how many of them were beyond it.
+-- Numbers brought to a range, and how many of them were beyond it.
 -- Assumes nothing.
 use mathlib.Core.Path.{_≡_, refl, sym, ap, _∙_, subst}
 use mathlib.Core.Bool.{Bool, true, false}
@@ -18,8 +18,8 @@ use Rattle.systems.specs.declared.Matrix.{Matrix}
 use Rattle.systems.specs.declared.Range.{Range}
 use Rattle.matrix.specs.declared.Clips.{Clips}
 use Rattle.matrix.specs.declared.Words.{Words}
+use Rattle.matrix.specs.Inner.{CodesIn}
 use Rattle.matrix.specs.Triples.{redOf, greenOf, blueOf, natural, noClips, _plus_, clipped, beyond, codesAt}
-use Rattle.matrix.specs.Inner.{NominalCodes}
 
 -- ---- counts together
 pub none-plus : (a : Clips) → noClips plus a ≡ a
@@ -71,7 +71,7 @@ beyond-at-most-one n v = by-tests (ltZ v (pos (n .low))) (ltZ (pos (n .high)) v)
     by-tests false true = omega arith
     by-tests false false = omega arith
 
-clipped-within : (n : Range) (v : ℤ) → n .low ≤ n .high → (n .low ≤ clipped n v) × (clipped n v ≤ n .high)
+pub clipped-within : (n : Range) (v : ℤ) → n .low ≤ n .high → (n .low ≤ clipped n v) × (clipped n v ≤ n .high)
 clipped-within n v h = by-tests (ltZ v (pos (n .low))) (ltZ (pos (n .high)) v) refl refl
   where
     by-tests : (l t : Bool) → ltZ v (pos (n .low)) ≡ l → ltZ (pos (n .high)) v ≡ t →
@@ -81,10 +81,6 @@ clipped-within n v h = by-tests (ltZ v (pos (n .low))) (ltZ (pos (n .high)) v) r
     by-tests false true e f = (h, le-refl (n .high))
     by-tests false false e f = inside v (n .low) (n .high) e f
 
--- 16s to 235s
-abbrev pub nominalAt : ℕ → Range
-nominalAt s = record { low = 16 * s; high = 235 * s }
-
 -- of any words at all
 pub clipped-at-most-three : (x : Matrix) (s : ℕ) (n : Range) (w : Words) → codesAt x s n w .clips .total ≤ 3
 unfolding codesAt
@@ -92,13 +88,12 @@ clipped-at-most-three x s n w =
     let one = beyond-at-most-one n in
     omega (arith, one (rounded (redOf x s w)), one (rounded (greenOf x s w)), one (rounded (blueOf x s w)))
 
-pub codes-nominal : (x : Matrix) (s : ℕ) (w : Words) → NominalCodes s (codesAt x s (nominalAt s) w .codes)
+pub codes-in-range : (x : Matrix) (s : ℕ) (n : Range) (w : Words) → n .low ≤ n .high → CodesIn n (codesAt x s n w .codes)
 unfolding codesAt
-codes-nominal x s w =
-    let within : (v : ℤ) → (16 * s ≤ clipped (nominalAt s) v) × (clipped (nominalAt s) v ≤ 235 * s) = λ v. clipped-within (nominalAt s) v (omega arith) in
-    let r = within (rounded (redOf x s w)) in
-    let g = within (rounded (greenOf x s w)) in
-    let b = within (rounded (blueOf x s w)) in
+codes-in-range x s n w h =
+    let r = clipped-within n (rounded (redOf x s w)) h in
+    let g = clipped-within n (rounded (greenOf x s w)) h in
+    let b = clipped-within n (rounded (blueOf x s w)) h in
     record { r-low = r .0; r-high = r .1; g-low = g .0; g-high = g .1; b-low = b .0; b-high = b .1 }
 
 -- ---- what clipping does to a component that is near a code of the range

@@ -12,9 +12,10 @@ use Rattle.exact.proofs.Difference.{pos-sub, pos-less, sub-add, sub-minus, sub-
 use Rattle.systems.specs.declared.Codes.{Codes}
 use Rattle.systems.specs.declared.Matrix.{Matrix}
 use Rattle.systems.specs.declared.Matrix.the-variants.{Bt709, Bt2020}
+use Rattle.systems.specs.declared.Range.{Range}
 use Rattle.systems.specs.Systems.{kr, kg, kb}
 use Rattle.matrix.specs.Triples.{weighted, difference, encodedAt}
-use Rattle.matrix.specs.Inner.{NominalCodes, TwelveBitCodes, WordSized, Small, dotted, encodingRows, colourDifference}
+use Rattle.matrix.specs.Inner.{CodesIn, NominalCodes, TwelveBitCodes, WordSized, Small, dotted, encodingRows, colourDifference}
 use Rattle.matrix.proofs.Nominal.{words-of}
 
 -- what the rows multiply
@@ -77,8 +78,8 @@ module _ (c : Codes) (n : TwelveBitCodes c) where
   pub above-small : (x : Matrix) (v : ℕ) → v < 2 ^ 12 → natAbs (above x c v) ≤ 2 ^ 26
   above-small x v h = rw (pos-less (weighted x c) (10000 * v)) (sub-size (weighted x c) (10000 * v) (2 ^ 26) (omega (arith, luma-small x)) (omega arith))
 
-pub twelve-bit-codes : (s : ℕ) (c : Codes) → s ≤ 16 → NominalCodes s c → TwelveBitCodes c
-twelve-bit-codes s c S n = record { r-high = omega (arith, n .r-high); g-high = omega (arith, n .g-high); b-high = omega (arith, n .b-high) }
+pub twelve-bit-codes : (n : Range) (c : Codes) → n .high < 2 ^ 12 → CodesIn n c → TwelveBitCodes c
+twelve-bit-codes n c h i = record { r-high = omega (arith, i .r-high); g-high = omega (arith, i .g-high); b-high = omega (arith, i .b-high) }
 
 -- the words of nominal codes
 pub word-sized : (x : Matrix) (s : ℕ) (c : Codes) → s ≤ 16 → NominalCodes s c → WordSized (encodedAt x s c)

@@ -7,5 +7,6 @@ pub mod DecodingRows
 pub mod Fractions
 pub mod Nominal
 pub mod Tested
+pub mod Rules
 pub mod Return
 pub mod ColourDifference

@@ -2,6 +2,7 @@
 -- Definitions only.
 use Prim.Native.Nat.{ℕ, _+_, _*_, _-_, _/_, _^_, _≤_, _<_}
 use mathlib.Core.Path.{_≡_}
+use mathlib.Core.Bool.{true, false}
 use mathlib.Core.List.{List, [], _∷_}
 use lib.IntN.{ℤ, pos, negℤ, natAbs, _+ℤ_, _-ℤ_, _*ℤ_}
 use lib.ListN.{getD}
@@ -12,30 +13,43 @@ use Rattle.systems.specs.Systems.{kr, kg, kb}
 use Rattle.exact.specs.Signed.{Ratio, rounded}
 use Rattle.systems.specs.declared.Codes.{Codes}
 use Rattle.matrix.specs.declared.Words.{Words}
+use Rattle.matrix.specs.declared.WordRanges.{WordRanges}
 use Rattle.matrix.specs.declared.Unclipped.{Unclipped}
 use Rattle.matrix.specs.declared.Unlimited.{Unlimited}
-use Rattle.matrix.specs.Triples.{redOf, greenOf, blueOf}
+use Rattle.matrix.specs.declared.Encoding.{Encoding}
+use Rattle.matrix.specs.declared.Encoding.the-variants.{Plain, Trim}
+use Rattle.matrix.specs.Triples.{redOf, greenOf, blueOf, outside}
 
 -- the codes R, G and B that a triple holds
 abbrev pub triple : List ℕ → Codes
 triple c = record { r = getD c 0 0; g = getD c 1 0; b = getD c 2 0 }
 
--- codes and words that are nominal at the scale s
-pub record NominalCodes (s : ℕ) (c : Codes) : Type 0 where
-  pub r-low : 16 * s ≤ c .r
-  pub r-high : c .r ≤ 235 * s
-  pub g-low : 16 * s ≤ c .g
-  pub g-high : c .g ≤ 235 * s
-  pub b-low : 16 * s ≤ c .b
-  pub b-high : c .b ≤ 235 * s
+-- codes that a range holds, and words that their ranges hold
+pub record CodesIn (n : Range) (c : Codes) : Type 0 where
+  pub r-low : n .low ≤ c .r
+  pub r-high : c .r ≤ n .high
+  pub g-low : n .low ≤ c .g
+  pub g-high : c .g ≤ n .high
+  pub b-low : n .low ≤ c .b
+  pub b-high : c .b ≤ n .high
 
-pub record NominalWords (s : ℕ) (w : Words) : Type 0 where
-  pub y-low : 16 * s ≤ w .y
-  pub y-high : w .y ≤ 235 * s
-  pub cb-low : 16 * s ≤ w .cb
-  pub cb-high : w .cb ≤ 240 * s
-  pub cr-low : 16 * s ≤ w .cr
-  pub cr-high : w .cr ≤ 240 * s
+pub record WordsIn (n : WordRanges) (w : Words) : Type 0 where
+  pub y-low : n .luma .low ≤ w .y
+  pub y-high : w .y ≤ n .luma .high
+  pub cb-low : n .difference .low ≤ w .cb
+  pub cb-high : w .cb ≤ n .difference .high
+  pub cr-low : n .difference .low ≤ w .cr
+  pub cr-high : w .cr ≤ n .difference .high
+
+-- nominal and video data at the scale s
+abbrev pub nominalAt : ℕ → WordRanges
+nominalAt s = record { luma = record { low = 16 * s; high = 235 * s }; difference = record { low = 16 * s; high = 240 * s } }
+
+abbrev pub videoAt : ℕ → Range
+videoAt s = record { low = s; high = 255 * s - 1 }
+
+abbrev pub NominalCodes : ℕ → Codes → Type 0
+NominalCodes s = CodesIn (nominalAt s .luma)
 
 -- codes and words of at most 12 bits
 pub record TwelveBitCodes (c : Codes) : Type 0 where
@@ -57,6 +71,11 @@ pub record WordSized (v : Unlimited) : Type 0 where
   pub y-high : y < 2 ^ 16
   pub cb-high : cb < 2 ^ 16
   pub cr-high : cr < 2 ^ 16
+
+-- the range that a word is held to: that of the rule which may act on it
+abbrev pub heldTo : Encoding → Range → Range → ℤ → Range
+heldTo Plain video nominal v = video
+heldTo Trim video nominal v = elim (outside video v) [ true ↦ video | false ↦ nominal ]
 
 -- a row by a triple
 abbrev pub dotted : List ℤ → List ℤ → ℤ

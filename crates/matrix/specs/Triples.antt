@@ -1,7 +1,8 @@
--- Codes to words and back (document 01, 'Triples'). Inside INT stands the exact rational, here as one ratio.
+-- Codes to words and back (document 01, 'Triples', and request 2026-03). Inside INT stands the exact rational, here as one ratio.
 -- Definitions only.
 use Prim.Native.Nat.{ℕ, _+_, _*_, _-_}
-use mathlib.Core.Bool.{Bool, true, false, _&&_}
+use mathlib.Core.Bool.{Bool, true, false, _&&_, _||_}
+use mathlib.Core.List.{List, [], _∷_}
 use lib.IntN.{ℤ, pos, negsuc, _+ℤ_, _-ℤ_, _*ℤ_}
 use lib.Signed.{ltZ}
 use Rattle.exact.specs.Signed.{Ratio, rounded}
@@ -10,11 +11,14 @@ use Rattle.systems.specs.declared.Codes.{Codes}
 use Rattle.systems.specs.declared.Matrix.{Matrix}
 use Rattle.systems.specs.declared.Range.{Range}
 use Rattle.systems.specs.declared.System.{System}
-use Rattle.systems.specs.Systems.{matrix, scale, kr, kg, kb, nominal, nominalDifference, within, allWithin, named}
+use Rattle.systems.specs.Systems.{matrix, scale, kr, kg, kb, nominal, nominalDifference, videoData, within, allWithin, named}
 use Rattle.systems.specs.Refusals.{refusal}
 use Rattle.matrix.specs.declared.Words.{Words}
 use Rattle.matrix.specs.declared.WordRanges.{WordRanges}
 use Rattle.matrix.specs.declared.Unlimited.{Unlimited}
+use Rattle.matrix.specs.declared.Limited.{Limited}
+use Rattle.matrix.specs.declared.Encoding.{Encoding}
+use Rattle.matrix.specs.declared.Encoding.the-variants.{Plain, Trim}
 use Rattle.matrix.specs.declared.Clips.{Clips}
 use Rattle.matrix.specs.declared.Clipped.{Clipped}
 use Rattle.matrix.specs.declared.Encoded.{Encoded}
@@ -49,7 +53,7 @@ abbrev pub natural : ℤ → ℕ
 natural (pos n) = n
 natural (negsuc n) = 0
 
--- Y', Cb and Cr of a code triple
+-- Y', Cb and Cr of a code triple, as INT leaves them: some may be below 0 or above every code
 abbrev pub encodedAt : Matrix → ℕ → Codes → Unlimited
 encodedAt x s c = record { y = rounded (luma x c); cb = rounded (cbOf x s c); cr = rounded (crOf x s c) }
 
@@ -60,6 +64,50 @@ worded v = record { y = natural (v .y); cb = natural (v .cb); cr = natural (v .c
 -- the words of a triple of nominal codes
 unfoldable pub wordsAt : Matrix → ℕ → Codes → Words
 wordsAt x s c = worded (encodedAt x s c)
+
+-- a number is beyond a range; and brought to the range's nearer end where it is
+abbrev pub outside : Range → ℤ → Bool
+outside r v = ltZ v (pos (r .low)) || ltZ (pos (r .high)) v
+
+abbrev pub clipped : Range → ℤ → ℕ
+clipped r v = elim (ltZ v (pos (r .low))) [ true ↦ r .low | false ↦ elim (ltZ (pos (r .high)) v) [ true ↦ r .high | false ↦ natural v ] ]
+
+-- A rule brings a number beyond its range to the range's nearer end. The rules of an encoding, in the order in which they are tried:
+-- the guard, by video data; then trim, by nominal, if it is chosen
+abbrev pub rules : Encoding → Range → Range → List Range
+rules Plain video nominal = video ∷ []
+rules Trim video nominal = video ∷ nominal ∷ []
+
+-- the word of a number that INT left: the first rule whose range it is beyond acts on it, and no other
+abbrev pub ruled : List Range → ℤ → ℕ
+ruled [] v = natural v
+ruled (r ∷ rs) v = elim (outside r v) [ true ↦ clipped r v | false ↦ ruled rs v ]
+
+-- 1 where a rule acts
+abbrev pub moved : List Range → ℤ → ℕ
+moved [] v = 0
+moved (r ∷ rs) v = elim (outside r v) [ true ↦ 1 | false ↦ moved rs v ]
+
+-- nominal Y', Cb and Cr
+abbrev pub nominalWords : System → WordRanges
+nominalWords y = record { luma = nominal y; difference = nominalDifference y }
+
+-- the words that the rules leave of Y', Cb and Cr, and how many were moved, 0 to 3
+unfoldable pub limited : Encoding → Range → WordRanges → Unlimited → Limited
+limited e video n v =
+    let luma = rules e video (n .luma) in
+    let difference = rules e video (n .difference) in
+    record {
+      words = record { y = ruled luma (v .y); cb = ruled difference (v .cb); cr = ruled difference (v .cr) };
+      moved = moved luma (v .y) + moved difference (v .cb) + moved difference (v .cr);
+    }
+
+-- the words of a code triple in the system that n names, or refusal 1 or 6
+abbrev pub wordsOfCodes : ℕ → Encoding → Codes → Outcome Limited
+wordsOfCodes n e c =
+    named n and-then λ (y : System).
+    require (allWithin (videoData y) c) 6
+    (accepted (limited e (videoData y) (nominalWords y) (encodedAt (matrix y) (scale y) c)))
 
 -- the signed difference C - m, cb or cr
 abbrev pub signed : ℕ → ℕ → ℤ
@@ -90,10 +138,7 @@ infixl 6 _plus_
 abbrev pub _plus_ : Clips → Clips → Clips
 a plus b = record { total = a .total + b .total }
 
--- a component brought to the nearer end of a range where it is beyond it, and 1 where it was
-abbrev pub clipped : Range → ℤ → ℕ
-clipped r v = elim (ltZ v (pos (r .low))) [ true ↦ r .low | false ↦ elim (ltZ (pos (r .high)) v) [ true ↦ r .high | false ↦ natural v ] ]
-
+-- a component that is clipped
 abbrev pub beyond : Range → ℤ → Clips
 beyond r v = record { total = elim (ltZ v (pos (r .low))) [ true ↦ 1 | false ↦ elim (ltZ (pos (r .high)) v) [ true ↦ 1 | false ↦ 0 ] ] }
 
@@ -105,25 +150,17 @@ codesAt x s n w =
     let b = rounded (blueOf x s w) in
     record { codes = record { r = clipped n r; g = clipped n g; b = clipped n b }; clips = beyond n r plus beyond n g plus beyond n b }
 
--- the words of a code triple in the system that n names, or refusal 1 or 6
-abbrev pub wordsOfCodes : ℕ → Codes → Outcome Words
-wordsOfCodes n c = named n and-then λ (y : System). require (allWithin (nominal y) c) 6 (accepted (wordsAt (matrix y) (scale y) c))
-
--- nominal Y', Cb and Cr
-abbrev pub nominalWords : System → WordRanges
-nominalWords y = record { luma = nominal y; difference = nominalDifference y }
-
--- a sample's words are in their ranges
-abbrev pub wordsWithin : WordRanges → Words → Bool
-wordsWithin r w = within (r .luma) (w .y) && within (r .difference) (w .cb) && within (r .difference) (w .cr)
+-- a sample's words are in a range
+abbrev pub wordsWithin : Range → Words → Bool
+wordsWithin r w = within r (w .y) && within r (w .cb) && within r (w .cr)
 
 -- the codes of a word triple in the system that n names, or refusal 1 or 6
 abbrev pub codesOfWords : ℕ → Words → Outcome Clipped
-codesOfWords n w = named n and-then λ (y : System). require (wordsWithin (nominalWords y) w) 6 (accepted (codesAt (matrix y) (scale y) (nominal y) w))
+codesOfWords n w = named n and-then λ (y : System). require (wordsWithin (videoData y) w) 6 (accepted (codesAt (matrix y) (scale y) (videoData y) w))
 
 -- what the answers say
-abbrev pub wordsOutcome : Encoded → Outcome Words
-wordsOutcome (encoded.Words w) = accepted w
+abbrev pub wordsOutcome : Encoded → Outcome Limited
+wordsOutcome (encoded.Words l) = accepted l
 wordsOutcome (encoded.Refused r) = refused (refusal r)
 
 abbrev pub codesOutcome : Decoded → Outcome Clipped

@@ -1,4 +1,4 @@
-// Codes to words and back (document 01, 'Triples').
+// Codes to words and back (document 01, 'Triples', and request 2026-03).
 use systems::Codes;
 use systems::Matrix;
 use systems::Named;
@@ -10,9 +10,9 @@ ghost use Prim.Native.Nat.{_+_, _*_, _^_, _≤_, _<_};
 ghost use lib.IntN.{pos, natAbs, _-ℤ_};
 ghost use lib.Signed.{_<ℤ_};
 ghost use Rattle.exact.specs.Signed.{rounded};
-ghost use Rattle.systems.specs.Systems.{matrix, scale};
-ghost use Rattle.matrix.specs.Triples.{encodedAt, worded, wordsAt, codesAt, wordsOfCodes, codesOfWords, wordsOutcome, codesOutcome, nominalWords, wordsWithin, _plus_, clipped, beyond};
-ghost use Rattle.matrix.specs.Inner.{triple, NominalCodes, TwelveBitCodes, TwelveBitWords, WordSized, Small, dotted, encodingRows, colourDifference, decodingRows, unclippedAt, fixed, fromFixed, InOrder};
+ghost use Rattle.systems.specs.Systems.{matrix, scale, videoData};
+ghost use Rattle.matrix.specs.Triples.{encodedAt, worded, wordsAt, limited, codesAt, wordsOfCodes, codesOfWords, wordsOutcome, codesOutcome, nominalWords, wordsWithin, _plus_, outside, clipped, beyond};
+ghost use Rattle.matrix.specs.Inner.{triple, NominalCodes, TwelveBitCodes, TwelveBitWords, WordSized, heldTo, Small, dotted, encodingRows, colourDifference, decodingRows, unclippedAt, fixed, fromFixed, InOrder};
 
 // Y', Cb and Cr words of a sample.
 #[repr(C)]
@@ -28,11 +28,23 @@ pub struct WordRanges {
     pub difference: Range,
 }
 
-// Y', Cb and Cr of a sample's codes before they are words.
+// The rules that words are held to: the guard alone, or the guard and trim.
+pub enum Encoding {
+    Plain,
+    Trim,
+}
+
+// Y', Cb and Cr of a sample's codes before the rules: some are below 0 or above the greatest word.
 pub struct Unlimited {
     pub y: i64,
     pub cb: i64,
     pub cr: i64,
+}
+
+// The words that the rules leave, and how many of them were moved.
+pub struct Limited {
+    pub words: Words,
+    pub moved: u32,
 }
 
 // R, G and B of a sample's words before they are clipped: some are below 0 or above the greatest code.
@@ -54,7 +66,7 @@ pub struct Clipped {
 }
 
 pub enum Encoded {
-    Words(Words),
+    Words(Limited),
     Refused(Refusal),
 }
 
@@ -88,14 +100,14 @@ const DIFFERENCE_ERROR: i64 = 1 << 26;
 const PRIMARY_ERROR: i64 = 1 << 13;
 
 // The words of a code triple; refused with 1, then 6.
-pub fn words_of_codes(system: u32, codes: Codes) -> Encoded
-    ensures { λ r. ⌜ wordsOutcome r ≡ wordsOfCodes system codes ⌝ }
+pub fn words_of_codes(system: u32, encoding: Encoding, codes: Codes) -> Encoded
+    ensures { λ r. ⌜ wordsOutcome r ≡ wordsOfCodes system encoding codes ⌝ }
 {
     match System::from_number(system) {
         Named::Known(y) => {
-            if codes.all_in(y.nominal()) {
+            if codes.all_in(y.video_data()) {
                 let c = [codes.r as usize, codes.g as usize, codes.b as usize];
-                Encoded::Words(words_in(y, c))
+                Encoded::Words(limited_in(y, encoding, unlimited_in(y, c)))
             } else {
                 Encoded::Refused(Refusal::Code)
             }
@@ -110,8 +122,9 @@ pub fn codes_of_words(system: u32, words: Words) -> Decoded
 {
     match System::from_number(system) {
         Named::Known(y) => {
-            if words.all_in(WordRanges::nominal(y)) {
-                Decoded::Codes(codes_in(y, y.nominal(), words))
+            let video = y.video_data();
+            if words.all_in(video) {
+                Decoded::Codes(codes_in(y, video, words))
             } else {
                 Decoded::Refused(Refusal::Code)
             }
@@ -122,7 +135,7 @@ pub fn codes_of_words(system: u32, words: Words) -> Decoded
 
 impl WordRanges {
     // Nominal Y', Cb and Cr.
-    pub fn nominal(y: System) -> WordRanges
+    fn nominal(y: System) -> WordRanges
         ensures { λ r. ⌜ r ≡ nominalWords y ⌝ }
     {
         WordRanges {
@@ -133,12 +146,10 @@ impl WordRanges {
 }
 
 impl Words {
-    fn all_in(self, ranges: WordRanges) -> bool
-        ensures { λ r. ⌜ r ≡ wordsWithin ranges self ⌝ }
+    fn all_in(self, range: Range) -> bool
+        ensures { λ r. ⌜ r ≡ wordsWithin range self ⌝ }
     {
-        let luma = ranges.luma;
-        let difference = ranges.difference;
-        luma.holds(self.y) & difference.holds(self.cb) & difference.holds(self.cr)
+        range.holds(self.y) & range.holds(self.cb) & range.holds(self.cr)
     }
 }
 
@@ -153,7 +164,44 @@ impl Clips {
     }
 }
 
-// The words of one triple. The codes are as wide as a register, so that none has to be widened.
+impl Encoding {
+    // The range that a word is held to. The guard is tried first, and only one rule acts: trim is left the words of video data.
+    fn held_to(self, video: Range, nominal: Range, v: i64) -> Range
+        ensures { λ r. ⌜ r ≡ heldTo self video nominal v ⌝ }
+    {
+        match self {
+            Encoding::Plain => video,
+            Encoding::Trim => {
+                if outside(video, v) {
+                    return video;
+                }
+                nominal
+            }
+        }
+    }
+}
+
+// Y', Cb and Cr held to the rules.
+fn limited_in(y: System, encoding: Encoding, v: Unlimited) -> Limited
+    ensures { λ r. ⌜ r ≡ limited encoding (videoData y) (nominalWords y) v ⌝ }
+{
+    let video = y.video_data();
+    let n = WordRanges::nominal(y);
+    let luma = encoding.held_to(video, n.luma, v.y);
+    let blue = encoding.held_to(video, n.difference, v.cb);
+    let red = encoding.held_to(video, n.difference, v.cr);
+    let words = Words {
+        y: clip(luma, v.y),
+        cb: clip(blue, v.cb),
+        cr: clip(red, v.cr),
+    };
+    Limited {
+        words,
+        moved: outside(luma, v.y) as u32 + outside(blue, v.cb) as u32 + outside(red, v.cr) as u32,
+    }
+}
+
+// The words of one triple of nominal codes, which no rule moves. The codes are as wide as a register, so that none has to be widened.
 pub fn words_in(y: System, c: [usize; 3]) -> Words
     requires { ⌜ NominalCodes (scale y) (triple c) ⌝ }
     ensures { λ r. ⌜ r ≡ wordsAt (matrix y) (scale y) (triple c) ⌝ }
@@ -190,7 +238,7 @@ fn unlimited_by(x: Matrix, y: System, c: [usize; 3]) -> Unlimited
     ensures { λ r. ⌜ r ≡ encodedAt x (scale y) (triple c) ⌝ }
 {
     let w = x.weights();
-    let m = encoding(x);
+    let m = encoding_rows(x);
     let middle = y.middle();
     let t = [c[0] as i64, c[1] as i64, c[2] as i64];
     Unlimited {
@@ -201,7 +249,7 @@ fn unlimited_by(x: Matrix, y: System, c: [usize; 3]) -> Unlimited
 }
 
 // 10000 times Y', Y' - B and Y' - R of (R, G, B).
-fn encoding(x: Matrix) -> [[i64; 3]; 3]
+fn encoding_rows(x: Matrix) -> [[i64; 3]; 3]
     ensures { λ r. ⌜ r ≡ encodingRows x ⌝ }
 {
     let w = x.weights();
@@ -255,7 +303,7 @@ pub fn unclipped_by(x: Matrix, y: System, w: Words) -> Unclipped
     requires { ⌜ TwelveBitWords w ⌝ }
     ensures { λ r. ⌜ r ≡ unclippedAt x (scale y) w ⌝ }
 {
-    let m = decoding(x);
+    let m = decoding_rows(x);
     let middle = y.middle();
     let t = [w.y as i64, signed(w.cb, middle), signed(w.cr, middle)];
     Unclipped {
@@ -274,7 +322,7 @@ fn signed(word: u16, middle: u16) -> i64
 
 // By (Y', cb, cr) they give Y' + q·cr·2(1 - kr), Y' - q·cb·2kb(1 - kb)/kg - q·cr·2kr(1 - kr)/kg and Y' + q·cb·2(1 - kb), the weights
 // here as fractions and each entry in fixed point.
-fn decoding(x: Matrix) -> [[i64; 3]; 3]
+fn decoding_rows(x: Matrix) -> [[i64; 3]; 3]
     ensures { λ r. ⌜ r ≡ decodingRows x ⌝ }
 {
     let w = x.weights();
@@ -317,7 +365,14 @@ fn fixed(top: i64, bottom: i64) -> i64
     (t / b * LOW_PART + t % b * LOW_PART / b) as i64
 }
 
-// The nearer end of the range where a component is beyond it.
+// Whether a number is beyond the range.
+fn outside(n: Range, v: i64) -> bool
+    ensures { λ r. ⌜ r ≡ outside n v ⌝ }
+{
+    (v < n.low as i64) | ((n.high as i64) < v)
+}
+
+// The nearer end of the range where a number is beyond it.
 fn clip(n: Range, v: i64) -> u16
     ensures { λ r. ⌜ r ≡ clipped n v ⌝ }
 {

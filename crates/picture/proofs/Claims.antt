@@ -1,4 +1,4 @@
--- What demand 3 says of a list of calls, in document 01's words ('Picture', 'Light to code', 'Triples').
+-- What demand 3 says of a list of calls, in document 01's words ('Picture', 'Light to code', 'Triples') and request 2026-03's.
 -- Definitions only.
 use Prim.Native.Nat.{ℕ, _+_, _*_, _-_, _≤_, _<_, min, max}
 use mathlib.Core.Path.{_≡_}
@@ -33,13 +33,17 @@ below y d = max (16 * scale y) (d - 1)
 abbrev pub above : System → ℕ → ℕ
 above y d = min (235 * scale y) (d + 1)
 
+-- a code beyond nominal counts as the nominal end
+abbrev pub asNominal : System → ℕ → ℕ
+asNominal y d = max (16 * scale y) (min (235 * scale y) d)
+
 -- the code d was read for the light k
 pub record ReadCode (y : System) (k d : ℕ) : Type 0 where
   -- it is within one code of the light's exact quantised value
   pub near : WithinOne d (code y k)
   -- the light lies between the least light of the code below and the greatest light of the code above, both included
-  pub from : leastLight y (below y d) ≤ k
-  pub to : k ≤ greatestLight y (above y d)
+  pub from : leastLight y (below y (asNominal y d)) ≤ k
+  pub to : k ≤ greatestLight y (above y (asNominal y d))
 
 -- the word v is stored for the exact rational q
 pub record StoredWord (y : System) (q : Ratio) (v : ℕ) : Type 0 where

@@ -12,7 +12,7 @@ use Rattle.curve.specs.Curve.{code, fullLight, leastLight, greatestLight}
 use Rattle.curve.proofs.Lights.{code-low, code-high, codes-rise}
 use Rattle.light.proofs.Lit.{Lit, every-code-lit}
 use Rattle.light.proofs.Spans.{least-has, least-first, greatest-has, greatest-last}
-use Rattle.picture.proofs.Claims.{WithinOne, below, above}
+use Rattle.picture.proofs.Claims.{WithinOne, below, above, asNominal}
 
 lit : (y : System) (d : ℕ) → Nominal y d → Lit y d
 lit y d n =
@@ -38,9 +38,9 @@ module _ (y : System) (k d : ℕ) (light : k ≤ fullLight) (nominal : Nominal y
           greatest-last y d (lit y d nominal) k light e
       go (inr l) = l
 
-module _ (y : System) (k d : ℕ) (light : k ≤ fullLight) (nominal : Nominal y d) (near : WithinOne d (code y k)) where
-  pub from-below : leastLight y (below y d) ≤ k
-  from-below = least-before y k (below y d) light (omega arith) (omega (arith, code-low y k))
+module _ (y : System) (k d : ℕ) (light : k ≤ fullLight) (near : WithinOne d (code y k)) where
+  pub from-below : leastLight y (below y (asNominal y d)) ≤ k
+  from-below = least-before y k (below y (asNominal y d)) light (omega arith) (omega (arith, code-low y k))
 
-  pub to-above : k ≤ greatestLight y (above y d)
-  to-above = greatest-after y k (above y d) light (omega arith) (omega (arith, code-high y k))
+  pub to-above : k ≤ greatestLight y (above y (asNominal y d))
+  to-above = greatest-after y k (above y (asNominal y d)) light (omega arith) (omega (arith, code-high y k))

@@ -1,6 +1,6 @@
 -- The block of a row of lights: what is stored in it, and what reading it gives.
 -- Assumes nothing.
-use Prim.Native.Nat.{ℕ, zero, suc, _+_, _*_, _≤_, _<_}
+use Prim.Native.Nat.{ℕ, zero, suc, _+_, _*_, _-_, _≤_, _<_}
 use mathlib.Core.Path.{_≡_, refl, sym, ap, subst, _∙_}
 use mathlib.Core.Bool.{true}
 use mathlib.Core.Logic.{_⊎_, inl, inr}
@@ -13,22 +13,20 @@ use Rattle.exact.specs.Outcome.{accepted}
 use Rattle.exact.proofs.Order.{below-or-not}
 use Rattle.systems.specs.declared.Codes.{Codes}
 use Rattle.systems.specs.declared.System.{System}
-use Rattle.systems.specs.Systems.{number, matrix, scale, nominal, allWithin}
-use Rattle.systems.proofs.Scales.{named-number}
-use Rattle.systems.proofs.Ranges.{Nominal}
+use Rattle.systems.specs.Systems.{number, matrix, scale, videoData, within}
+use Rattle.systems.proofs.Scales.{named-number, scale-range}
 use Rattle.curve.specs.Curve.{code}
 use Rattle.matrix.specs.declared.Clipped.{Clipped}
 use Rattle.matrix.specs.declared.Words.{Words}
-use Rattle.matrix.specs.Inner.{NominalCodes, NominalWords}
-use Rattle.matrix.specs.Triples.{wordsAt, codesAt, nominalWords, wordsWithin}
-use Rattle.matrix.proofs.Clipping.{codes-nominal}
+use Rattle.matrix.specs.Inner.{NominalCodes, WordsIn, nominalAt}
+use Rattle.matrix.specs.Triples.{codesAt, wordsWithin}
 use Rattle.matrix.proofs.Nominal.{words-nominal, word-near, no-timing-code}
 use Rattle.matrix.proofs.Return.{codes-return-within-one}
 use Rattle.block.specs.declared.Header.{Header}
 use Rattle.block.specs.Block.{sampleOf}
 use Rattle.block.specs.Read.{sampleAt, decoded, codesTo, clipsTo, headerOf, sliceAfter}
 use Rattle.block.proofs.Decoding.{length-codes}
-use Rattle.block.proofs.ReadBack.{NominalRow, block-samples, block-reads-back, block-decodes-back}
+use Rattle.block.proofs.ReadBack.{VideoRow, block-samples, block-reads-back, block-decodes-back}
 use Rattle.row.specs.Row.{sampleCodes, sampleWords, tabulate, rowBlock}
 use Rattle.row.proofs.Sections.{length-tabulate}
 use Rattle.row.proofs.Samples.{lights-nominal}
@@ -84,21 +82,21 @@ module _ (row : ℕ → Clipped) (P : ℕ → ℕ → Type 0) where
           subst (P j) (sym found) (before l)
       go before (inr l) = last (below-or-not j (3 * n + 1)) (below-or-not j (3 * n + 2)) l
 
--- ---- tests that nominal codes and words pass
+-- ---- the test that nominal words pass
 
-codes-pass : (y : System) (c : Codes) → NominalCodes (scale y) c → allWithin (nominal y) c ≡ true
-codes-pass y c n =
-    simp (le-leb _ _ (n .r-low), le-leb _ _ (n .r-high), le-leb _ _ (n .g-low), le-leb _ _ (n .g-high), le-leb _ _ (n .b-low), le-leb _ _ (n .b-high))
+in-video : (y : System) (d : ℕ) → 16 * scale y ≤ d → d ≤ 240 * scale y → within (videoData y) d ≡ true
+in-video y d l h =
+    let s = scale-range y in
+    rw (le-leb (scale y) d (omega arith), le-leb d (255 * scale y - 1) (omega arith)) refl
 
-words-pass : (y : System) (v : Words) → NominalWords (scale y) v → wordsWithin (nominalWords y) v ≡ true
-words-pass y v n =
-    simp (le-leb _ _ (n .y-low), le-leb _ _ (n .y-high), le-leb _ _ (n .cb-low), le-leb _ _ (n .cb-high), le-leb _ _ (n .cr-low), le-leb _ _ (n .cr-high))
+words-pass : (y : System) (v : Words) → WordsIn (nominalAt (scale y)) v → wordsWithin (videoData y) v ≡ true
+words-pass y v n = rw (in-video y (v .y) (n .y-low) (omega (arith, n .y-high)), in-video y (v .cb) (n .cb-low) (n .cb-high), in-video y (v .cr) (n .cr-low) (n .cr-high)) refl
 
 -- ---- a sample
 
 -- a code d that is read at place j
 abbrev Good : System → List ℕ → ℕ → ℕ → Type 0
-Good y lights j d = WithinOne d (code y (getD lights j 0)) × Nominal y d
+Good y lights j d = WithinOne d (code y (getD lights j 0))
 
 -- the codes d that are read of sample i
 abbrev Returns : System → List ℕ → ℕ → Codes → Type 0
@@ -115,7 +113,7 @@ module _ (y : System) (lights : List ℕ) (i : ℕ) where
   sample-nominal : NominalCodes (scale y) c
   sample-nominal = lights-nominal y _ _ _ refl
 
-  sample-passes : wordsWithin (nominalWords y) (sampleWords y lights i) ≡ true
+  sample-passes : wordsWithin (videoData y) (sampleWords y lights i) ≡ true
   unfolding sampleWords
   sample-passes = words-pass y _ (words-nominal (matrix y) (scale y) c sample-nominal)
 
@@ -123,19 +121,19 @@ module _ (y : System) (lights : List ℕ) (i : ℕ) where
   unfolding sampleWords
   sample-stored =
       let near = word-near (matrix y) (scale y) c sample-nominal in
-      let free = no-timing-code y c (codes-pass y c sample-nominal) in
+      let free = no-timing-code y c sample-nominal in
       record {
         luma-word = record { near = near .0; no-timing = free .0 };
         cb-word = record { near = near .1; no-timing = free .1 };
         cr-word = record { near = near .2; no-timing = free .2 };
       }
 
-  sample-returns : Returns y lights i (codesAt (matrix y) (scale y) (nominal y) (sampleWords y lights i) .codes)
+  sample-returns : Returns y lights i (codesAt (matrix y) (scale y) (videoData y) (sampleWords y lights i) .codes)
   unfolding sampleWords
   sample-returns =
-      let back = codes-return-within-one (matrix y) (scale y) (nominal y) c (omega arith) (omega arith) sample-nominal in
-      let n = codes-nominal (matrix y) (scale y) (wordsAt (matrix y) (scale y) c) in
-      ((back .r, (n .r-low, n .r-high)), (back .g, (n .g-low, n .g-high)), (back .b, (n .b-low, n .b-high)))
+      let s = scale-range y in
+      let back = codes-return-within-one (matrix y) (scale y) (videoData y) c (omega arith) (omega arith) sample-nominal in
+      (back .r, back .g, back .b)
 
 -- ---- a row of w samples, numbered r
 
@@ -156,20 +154,20 @@ module _ (y : System) (r w : ℕ) (lights : List ℕ) (some : 1 ≤ w) (most : w
       let c = tabulate-at (λ i. sampleWords y lights i .cr) w i h in
       λ k. record { y = a k; cb = b k; cr = c k }
 
-  nominal-row : NominalRow y w ys cbs crs
-  nominal-row = record {
+  video-row : VideoRow y w ys cbs crs
+  video-row = record {
     some = some;
     most = most;
     luma-count = length-tabulate _ w;
     cb-count = length-tabulate _ w;
     cr-count = length-tabulate _ w;
-    nominal = λ i h. ap (wordsWithin (nominalWords y)) (samples i h) ∙ sample-passes y lights i;
+    words = λ i h. ap (wordsWithin (videoData y)) (samples i h) ∙ sample-passes y lights i;
   }
 
   words : (i : ℕ) → i < w → StoredSample y (codesOf y lights i) (sampleAt (rowBlock y r w lights) w i)
   unfolding rowBlock
   words i h =
-      let same : sampleAt (rowBlock y r w lights) w i ≡ sampleWords y lights i = block-samples (number y) r w y ys cbs crs nominal-row i h ∙ samples i h in
+      let same : sampleAt (rowBlock y r w lights) w i ≡ sampleWords y lights i = block-samples (number y) r w y ys cbs crs video-row i h ∙ samples i h in
       subst (StoredSample y (codesOf y lights i)) (sym same) (sample-stored y lights i)
 
   abbrev row : ℕ → Clipped
@@ -180,20 +178,20 @@ module _ (y : System) (r w : ℕ) (lights : List ℕ) (some : 1 ≤ w) (most : w
 
   answer : (room : ℕ) → 3 * w ≤ room → headerOf (rowBlock y r w lights) room ≡ accepted header
   unfolding rowBlock header
-  answer room h = block-reads-back (number y) r w y ys cbs crs nominal-row (named-number y) low room h
+  answer room h = block-reads-back (number y) r w y ys cbs crs video-row (named-number y) low room h
 
   left : (slice : List ℕ) → 3 * w ≤ length slice → sliceAfter (rowBlock y r w lights) slice ≡ codesTo row w ++ drop (3 * w) slice
   unfolding rowBlock
-  left slice h = block-decodes-back (number y) r w y ys cbs crs nominal-row (named-number y) low slice h
+  left slice h = block-decodes-back (number y) r w y ys cbs crs video-row (named-number y) low slice h
 
   codes : Lights lights → (slice : List ℕ) (j : ℕ) → j < 3 * w → ReadCode y (getD lights j 0) (getD (codesTo row w ++ drop (3 * w) slice) j 0)
   codes lit slice j h =
       let back : (i : ℕ) → i < w → Returns y lights i (row i .codes) =
-      λ i h. subst (λ (v : Words). Returns y lights i (codesAt (matrix y) (scale y) (nominal y) v .codes)) (sym (samples i h)) (sample-returns y lights i) in
+      λ i h. subst (λ (v : Words). Returns y lights i (codesAt (matrix y) (scale y) (videoData y) v .codes)) (sym (samples i h)) (sample-returns y lights i) in
       let good : Good y lights j (getD (codesTo row w) j 0) = each-code row (Good y lights) w back j h in
       let same : getD (codesTo row w ++ drop (3 * w) slice) j 0 ≡ getD (codesTo row w) j 0 =
       List·getD-append (codesTo row w) (drop (3 * w) slice) 0 j (omega (arith, length-codes row w)) in
-      rw same record { near = good .0; from = from-below y _ _ (lit j) (good .1) (good .0); to = to-above y _ _ (lit j) (good .1) (good .0) }
+      rw same record { near = good; from = from-below y _ _ (lit j) good; to = to-above y _ _ (lit j) good }
 
   pub reads-back : {card : Card} → Faithful card → Lights lights → ReadsBack card (rowBlock y r w lights) (record { system = number y; width = w; row = r; lights = lights })
   unfolding header

@@ -23,7 +23,7 @@ use Rattle.exact.proofs.Outcome.{accepted-first, required}
 use Rattle.systems.specs.declared.System.{System}
 use Rattle.systems.specs.declared.Codes.{Codes}
 use Rattle.systems.specs.Systems.{scale, nominal, named, allWithin}
-use Rattle.systems.proofs.Ranges.{Nominal, all-nominal}
+use Rattle.systems.proofs.Ranges.{Nominal, all-in-range}
 use Rattle.systems.proofs.Scales.{scale-range}
 use Rattle.signals.specs.declared.Signals.{Signals}
 use Rattle.signals.specs.Signals.{inUnit, component, signalCodes, nearest, signalsAt, codeSignals}
@@ -133,7 +133,7 @@ nominal-returns y d h =
 
 triple-returns : (n : ℕ) (y : System) (d : Codes) → named n ≡ accepted y → allWithin (nominal y) d ≡ true → signalCodes n (signalsAt (scale y) d) ≡ accepted d
 triple-returns n y d k h =
-    let each = all-nominal y d h in
+    let each = all-in-range (nominal y) d h in
     let r = nominal-returns y (d .r) (each .0) in
     let g = nominal-returns y (d .g) (each .1) in
     let b = nominal-returns y (d .b) (each .2) in

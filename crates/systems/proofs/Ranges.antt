@@ -19,14 +19,15 @@ in-range n d e =
     let t = holds e in
     (leb→le (n .low) d (and-l low high t), leb→le d (n .high) (and-r low high t))
 
+-- so do all three codes of a sample
+pub all-in-range : (n : Range) (d : Codes) → allWithin n d ≡ true → ((n .low ≤ d .r) × (d .r ≤ n .high)) × ((n .low ≤ d .g) × (d .g ≤ n .high)) × ((n .low ≤ d .b) × (d .b ≤ n .high))
+all-in-range n d e =
+    let t = each-of-three _ _ _ e in
+    (in-range n _ (t .0), in-range n _ (t .1), in-range n _ (t .2))
+
 -- 16s to 235s
 abbrev pub Nominal : System → ℕ → Type 0
 Nominal y d = (16 * scale y ≤ d) × (d ≤ 235 * scale y)
 
 pub is-nominal : (y : System) (d : ℕ) → within (nominal y) d ≡ true → Nominal y d
 is-nominal y = in-range (nominal y)
-
-pub all-nominal : (y : System) (d : Codes) → allWithin (nominal y) d ≡ true → Nominal y (d .r) × Nominal y (d .g) × Nominal y (d .b)
-all-nominal y d e =
-    let t = each-of-three _ _ _ e in
-    (is-nominal y _ (t .0), is-nominal y _ (t .1), is-nominal y _ (t .2))

@@ -13,7 +13,7 @@ pub enum Refusal {
     Lights,
     // 5: lent output too short.
     Output,
-    // 6: code or word outside nominal.
+    // 6 (request 2026-03): code or word outside video data, or nominal where a call asks for it.
     Code,
     // 7: signal below 0, above 1, or not a number.
     Signal,

@@ -17,7 +17,7 @@ returns c =
     let in-cb : cb .before .cb-word .result ≡ 7 + 2 * n = omega (arith, cb .before .cb-word .ensures) in
     let in-cr : c .before .cr-word .result ≡ 9 + 4 * n = omega (arith, c .before .cr-word .ensures) in
     none-of-three (luma .outside .result) (cb .outside2 .result) (c .outside3 .result)
-    ∙ rw (luma .outside .ensures .0, cb .outside2 .ensures .0, c .outside3 .ensures .0, in-y, in-cb, in-cr) (sym (within-by-sections (a .ranges) (now (a .bytes)) n n))
+    ∙ rw (luma .outside .ensures .0, cb .outside2 .ensures .0, c .outside3 .ensures .0, in-y, in-cb, in-cr) (sym (within-by-sections (a .range) (now (a .bytes)) n n))
 
 pub all-in-spec : {M : Type 1} → statement M
 all-in-spec =

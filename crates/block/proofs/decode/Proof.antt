@@ -6,7 +6,7 @@ use lib.ListN.{length, take, drop}
 use denote.Ref.{now}
 use Rattle.systems.specs.declared.Matrix.{Matrix}
 use Rattle.systems.specs.declared.Range.{Range}
-use Rattle.systems.specs.Systems.{matrix, scale, nominal}
+use Rattle.systems.specs.Systems.{matrix, scale, videoData}
 use Rattle.systems.proofs.Scales.{scale-range}
 use Rattle.block.specs.declared.Judged.{Judged}
 use Rattle.block.specs.Read.{sampleAt}
@@ -44,7 +44,7 @@ clip-all-requires : tie.Need-clip-all-requires
 clip-all-requires c κs =
     let r = c .before .before .before .before in
     let p = start r .pre in
-    (rw (c .before .nominal .ensures) record { in-order = omega arith; small = omega (arith, scale-range (judged r .system) .1) }, omega (arith, p .fits, unclipped-long r), omega (arith, p .narrow))
+    (rw (c .before .video-data .ensures) record { in-order = omega (arith, scale-range (judged r .system) .0); small = omega (arith, scale-range (judged r .system) .1) }, omega (arith, p .fits, unclipped-long r), omega (arith, p .narrow))
 
 returns : tie.Need-returns
 returns c =
@@ -52,8 +52,8 @@ returns c =
     let s = start r in
     let b = judged r in
     let n = b .samples in
-    let done = clipped-row (matrix (b .system)) (scale (b .system)) (nominal (b .system)) (sampleAt (now (s .args .bytes)) n) (scale-range (b .system) .1) n (now (s .args .codes)) (unclipped r) (s .pre .words) (unclipped-is r) in
-    let range = c .before .before .before .before .nominal .ensures in
+    let done = clipped-row (matrix (b .system)) (scale (b .system)) (videoData (b .system)) (sampleAt (now (s .args .bytes)) n) (scale-range (b .system) .1) n (now (s .args .codes)) (unclipped r) (s .pre .words) (unclipped-is r) in
+    let range = c .before .before .before .before .video-data .ensures in
     let clipped = c .before .before .clip-all .ensures in
     let count = clipped .0 ∙ ap (λ (t : Range). beyondAll t (take (3 * n) (unclipped r))) range ∙ done .0 in (
       λ j. record { system = b .system; row = b .row; samples = n; clips = count j },

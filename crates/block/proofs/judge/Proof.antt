@@ -17,11 +17,11 @@ all-in-requires c κs = let shape = walk-accepted _ _ (walked (c .before .before
 
 returns : tie.Need-returns
 unfolding judge
-returns c = rw (walked (c .before .before .before .before), rw (c .before .before .nominal .ensures) at (sym (c .before .all-in .ensures) ∙ c .if1 .taken))
+returns c = rw (walked (c .before .before .before .before), rw (c .before .before .video-data .ensures) at (sym (c .before .all-in .ensures) ∙ c .if1 .taken))
 
 returns-2 : tie.Need-returns-2
 unfolding judge
-returns-2 c = rw (walked (c .before .before .before .before), rw (c .before .before .nominal .ensures) at (sym (c .before .all-in .ensures) ∙ c .if1 .left))
+returns-2 c = rw (walked (c .before .before .before .before), rw (c .before .before .video-data .ensures) at (sym (c .before .all-in .ensures) ∙ c .if1 .left))
 
 returns-3 : tie.Need-returns-3
 unfolding judge

@@ -25,19 +25,19 @@ primary-requires : tie.Need-primary-requires
 primary-requires c κs =
     let d = c .before in
     let s = d .before .before .before .before .before in
-    rw (d .before .before .before .before .decoding .ensures, y-read s, cb-read (d .before), cr-read d) (rows-small (scale (s .args .y)) (s .args .w) (scale-range (s .args .y) .1) (s .pre) (s .args .x) .0)
+    rw (d .before .before .before .before .decoding-rows .ensures, y-read s, cb-read (d .before), cr-read d) (rows-small (scale (s .args .y)) (s .args .w) (scale-range (s .args .y) .1) (s .pre) (s .args .x) .0)
 
 primary-requires-2 : tie.Need-primary-requires-2
 primary-requires-2 c κs =
     let d = c .before .before .before in
     let s = d .before .before .before .before .before in
-    rw (d .before .before .before .before .decoding .ensures, y-read s, cb-read (d .before), cr-read d) (rows-small (scale (s .args .y)) (s .args .w) (scale-range (s .args .y) .1) (s .pre) (s .args .x) .1)
+    rw (d .before .before .before .before .decoding-rows .ensures, y-read s, cb-read (d .before), cr-read d) (rows-small (scale (s .args .y)) (s .args .w) (scale-range (s .args .y) .1) (s .pre) (s .args .x) .1)
 
 primary-requires-3 : tie.Need-primary-requires-3
 primary-requires-3 c κs =
     let d = c .before .before .before .before .before in
     let s = d .before .before .before .before .before in
-    rw (d .before .before .before .before .decoding .ensures, y-read s, cb-read (d .before), cr-read d) (rows-small (scale (s .args .y)) (s .args .w) (scale-range (s .args .y) .1) (s .pre) (s .args .x) .2)
+    rw (d .before .before .before .before .decoding-rows .ensures, y-read s, cb-read (d .before), cr-read d) (rows-small (scale (s .args .y)) (s .args .w) (scale-range (s .args .y) .1) (s .pre) (s .args .x) .2)
 
 returns : tie.Need-returns
 returns c =
@@ -45,7 +45,7 @@ returns c =
     let s = d .before .before .before .before .before in
     let r = c .before .before .before .before in
     let g = c .before .before in
-    rw (toZ-ofZ w64 (r .primary .result) (sfits-of (r .primary .ok)), toZ-ofZ w64 (g .primary2 .result) (sfits-of (g .primary2 .ok)), toZ-ofZ w64 (c .primary3 .result) (sfits-of (c .primary3 .ok)), r .primary .ensures, g .primary2 .ensures, c .primary3 .ensures, d .before .before .before .before .decoding .ensures, y-read s, cb-read (d .before), cr-read d)
+    rw (toZ-ofZ w64 (r .primary .result) (sfits-of (r .primary .ok)), toZ-ofZ w64 (g .primary2 .result) (sfits-of (g .primary2 .ok)), toZ-ofZ w64 (c .primary3 .result) (sfits-of (c .primary3 .ok)), r .primary .ensures, g .primary2 .ensures, c .primary3 .ensures, d .before .before .before .before .decoding-rows .ensures, y-read s, cb-read (d .before), cr-read d)
     (rows-give (s .args .x) (scale (s .args .y)) (s .args .w) (scale-range (s .args .y) .1) (s .pre))
 
 pub unclipped-by-spec : {M : Type 1} → statement M

@@ -38,26 +38,26 @@ module _ (s : tie.Start) where
   weighted-small = luma-small codes (s .pre) (s .args .x)
 
 -- ---- what the rows come to
-small : (c : tie.After-encoding) →
+small : (c : tie.After-encoding-rows) →
     let t = multiplied (c .before .before) in
-    let rows = c .encoding .result in
+    let rows = c .encoding-rows .result in
     Small (getD rows 0 []) t × Small (getD rows 1 []) t × Small (getD rows 2 []) t
 small c =
     let s = c .before .before in
-    rw (c .encoding .ensures, column-read s) (rows-small (codes s) (s .pre) (s .args .x))
+    rw (c .encoding-rows .ensures, column-read s) (rows-small (codes s) (s .pre) (s .args .x))
 
-dots : (c : tie.After-encoding) →
+dots : (c : tie.After-encoding-rows) →
     let s = c .before .before in
-    let rows = c .encoding .result in
+    let rows = c .encoding-rows .result in
     (dotted (getD rows 0 []) (multiplied s) ≡ pos (weighted (s .args .x) (codes s)))
     × (dotted (getD rows 1 []) (multiplied s) ≡ above (s .args .x) (codes s) (codes s .b))
     × (dotted (getD rows 2 []) (multiplied s) ≡ above (s .args .x) (codes s) (codes s .r))
 dots c =
     let s = c .before .before in
     let given = rows-give (s .args .x) (codes s) in (
-      (λ i. dotted (getD (c .encoding .ensures i) 0 []) (column-read s i)) ∙ given .0,
-      (λ i. dotted (getD (c .encoding .ensures i) 1 []) (column-read s i)) ∙ given .1,
-      (λ i. dotted (getD (c .encoding .ensures i) 2 []) (column-read s i)) ∙ given .2,
+      (λ i. dotted (getD (c .encoding-rows .ensures i) 0 []) (column-read s i)) ∙ given .0,
+      (λ i. dotted (getD (c .encoding-rows .ensures i) 1 []) (column-read s i)) ∙ given .1,
+      (λ i. dotted (getD (c .encoding-rows .ensures i) 2 []) (column-read s i)) ∙ given .2,
     )
 
 luma-read : (c : tie.After-dot) → let s = c .before .before .before .before .before in toZ w64 (ofZ w64 (c .dot .result)) ≡ pos (weighted (s .args .x) (codes s))

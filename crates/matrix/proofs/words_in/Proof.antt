@@ -1,4 +1,5 @@
 use mathlib.Core.Path.{ap, _∙_}
+use native.Mathlib.Omega.{arith}
 use Rattle.systems.specs.Systems.{matrix}
 use Rattle.systems.proofs.Scales.{scale-range}
 use Rattle.matrix.specs.Triples.{worded, wordsAt}
@@ -7,7 +8,7 @@ use Rattle.matrix.proofs.words_in.Statement.{statement}
 use Rattle.matrix.proofs.words_in.Tie as tie
 
 unlimited-in-requires : tie.Need-unlimited-in-requires
-unlimited-in-requires c κs = twelve-bit-codes _ _ (scale-range (c .args .y) .1) (c .pre)
+unlimited-in-requires c κs = twelve-bit-codes _ _ (omega (arith, scale-range (c .args .y) .1)) (c .pre)
 
 to-words-requires : tie.Need-to-words-requires
 to-words-requires c κs =

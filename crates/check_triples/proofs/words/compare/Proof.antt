@@ -8,16 +8,16 @@ use Rattle.check_triples.proofs.words.compare.Statement.{statement}
 use Rattle.check_triples.proofs.words.compare.Tie as tie
 
 abbrev Inv-loop : tie.InvT-loop
-Inv-loop records tally₀ i₀ tally i = Counted (wordsAt records) (length records / 18) i tally
+Inv-loop encoding records tally₀ i₀ tally i = Counted (wordsAt encoding records) (length records / 20) i tally
 
 abbrev μ-loop : tie.MeasureT-loop
-μ-loop records tally₀ i₀ tally i = length records / 18 - i
+μ-loop encoding records tally₀ i₀ tally i = length records / 20 - i
 
 loop-holds : tie.Need-loop-holds Inv-loop μ-loop
 loop-holds c = none-yet _ _
 
 loop-again : tie.Need-loop-again Inv-loop μ-loop
-loop-again c = one-more (c .before .before .before .before .loop .inv) (c .before .before .before .loop-test .taken) (c .before .is-met .ensures ∙ ap wordsMet (c .before .before .case-at .ensures)) (c .with .ensures)
+loop-again c = one-more (c .before .before .before .before .loop .inv) (c .before .before .before .loop-test .taken) (c .before .is-met .ensures ∙ ap (wordsMet _) (c .before .before .case-at .ensures)) (c .with .ensures)
 
 returns : tie.Need-returns Inv-loop μ-loop
 returns c = all-counted (c .before .before .loop .inv) _ (c .before .loop-test .left) (c .ended .ensures)

@@ -1,6 +1,6 @@
 use mathlib.Core.Path.{sym, ap, _∙_}
 use Rattle.exact.specs.Outcome.{Outcome}
-use Rattle.matrix.specs.declared.Words.{Words}
+use Rattle.matrix.specs.declared.Limited.{Limited}
 use Rattle.matrix.specs.Triples.{wordsOutcome}
 use Rattle.check_zimg.specs.Samples.{wordsNear}
 use borrow.Author.Needs.{needs}
@@ -9,13 +9,15 @@ use Rattle.check_zimg.proofs.comparison.with_words.Tie as tie
 
 returns : tie.Need-returns
 returns c =
-    let outcome = ap wordsOutcome (sym (c .before .before .before .before .ours .given .1)) ∙ c .before .before .before .before .before .before .words-of-codes .ensures in
-    rw (c .with3 .ensures, c .before .with2 .ensures, c .before .before .with .ensures) (ap (λ (o : Outcome Words). wordsNear o (c .before .before .before .before .before .before .before .args .found) (c .before .before .before .before .before .before .before .args .theirs)) outcome)
+    let s = c .before .before .before .before .before .before .before .before .args in
+    let outcome = ap wordsOutcome (sym (c .before .before .before .before .before .limited .given .1)) ∙ c .before .before .before .before .before .before .before .words-of-codes .ensures in
+    rw (c .with3 .ensures, c .before .with2 .ensures, c .before .before .with .ensures) (ap (λ (o : Outcome Limited). wordsNear o (s .found) (s .theirs)) outcome)
 
 returns-2 : tie.Need-returns-2
 returns-2 c =
+    let s = c .before .before .before .before .args in
     let outcome = ap wordsOutcome (sym (c .before .enum-told .given .1)) ∙ c .before .before .before .words-of-codes .ensures in
-    c .off .ensures ∙ ap (λ (o : Outcome Words). wordsNear o (c .before .before .before .before .args .found) (c .before .before .before .before .args .theirs)) outcome
+    c .off .ensures ∙ ap (λ (o : Outcome Limited). wordsNear o (s .found) (s .theirs)) outcome
 
 pub with-words-spec : {M : Type 1} → statement M
 with-words-spec =

@@ -1,18 +1,9 @@
-use Prim.Native.Nat.{ℕ}
-use mathlib.Core.Path.{ap, sym, _∙_}
 use borrow.Author.Needs.{needs}
-use Rattle.exact.specs.Outcome.{refused}
-use Rattle.matrix.specs.Triples.{wordsOutcome}
-use Rattle.ferghulta.specs.Answers.{wordsAnswer}
 use Rattle.ferghulta.proofs.calls.ferghulta_words_of_codes.Statement.{statement}
 use Rattle.ferghulta.proofs.calls.ferghulta_words_of_codes.Tie as tie
 
 returns : tie.Need-returns
-returns c = ap wordsAnswer (sym (ap wordsOutcome (c .before .words .given .1)) ∙ c .before .before .before .words-of-codes .ensures)
-
-returns-2 : tie.Need-returns-2
-returns-2 c = ap (λ (n : ℕ). wordsAnswer (refused n)) (c .number .ensures) ∙ ap wordsAnswer (sym (ap wordsOutcome (c .before .before .r .given .1)) ∙ c .before .before .before .before .words-of-codes .ensures)
+returns c = c .encode .ensures
 
 pub ferghulta-words-of-codes-spec : {M : Type 1} → statement M
-ferghulta-words-of-codes-spec =
-    tie.close (tie.spec (λ c κs. search needs) (λ c. search needs) (λ c. search needs) (λ c κs. search needs) returns returns-2)
+ferghulta-words-of-codes-spec = tie.close (tie.spec (λ c κs. search needs) returns)

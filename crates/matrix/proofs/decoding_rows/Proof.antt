@@ -5,8 +5,8 @@ use borrow.Author.Needs.{needs}
 use Rattle.systems.specs.declared.Matrix.the-variants.{Bt709, Bt2020}
 use Rattle.matrix.specs.Inner.{decodingRows}
 use Rattle.matrix.proofs.Weights.{Row, row-of}
-use Rattle.matrix.proofs.decoding.Statement.{statement}
-use Rattle.matrix.proofs.decoding.Tie as tie
+use Rattle.matrix.proofs.decoding_rows.Statement.{statement}
+use Rattle.matrix.proofs.decoding_rows.Tie as tie
 
 row : (c : tie.After-weights) → Row Bt709 (c .before .args .x) (c .weights .result) ⊎ Row Bt2020 (c .before .args .x) (c .weights .result)
 row c = row-of (c .before .args .x) (c .weights .result) (c .weights .ensures)
@@ -102,8 +102,8 @@ returns c = elim (row (c .before .before .before .before .before .before .before
   | inr e ↦ rw (c .before .before .before .before .before .before .before .fixed .ensures, c .before .before .fixed2 .ensures, c .before .fixed3 .ensures, c .fixed4 .ensures, e .0, e .1) refl
 ]
 
-pub decoding-spec : {M : Type 1} → statement M
-decoding-spec =
+pub decoding-rows-spec : {M : Type 1} → statement M
+decoding-rows-spec =
     tie.close
     (tie.spec (λ c κs. search needs) (λ c. search needs) (λ c. search needs) sub-cr mul-cr-2 (λ c. search needs) sub-cb mul-cb-2 mul-fixed
     mul-fixed-2 fixed-requires mul-fixed-3 mul-fixed-4 fixed-requires-2 fixed-requires-3 sub-t9 sub-t11 fixed-requires-4 returns)

@@ -5,8 +5,8 @@ use borrow.Author.Needs.{needs}
 use Rattle.systems.specs.declared.Matrix.the-variants.{Bt709, Bt2020}
 use Rattle.matrix.specs.Inner.{encodingRows}
 use Rattle.matrix.proofs.Weights.{Row, row-of}
-use Rattle.matrix.proofs.encoding.Statement.{statement}
-use Rattle.matrix.proofs.encoding.Tie as tie
+use Rattle.matrix.proofs.encoding_rows.Statement.{statement}
+use Rattle.matrix.proofs.encoding_rows.Tie as tie
 
 row : (c : tie.After-weights) → Row Bt709 (c .before .args .x) (c .weights .result) ⊎ Row Bt2020 (c .before .args .x) (c .weights .result)
 row c = row-of (c .before .args .x) (c .weights .result) (c .weights .ensures)
@@ -30,5 +30,5 @@ returns c = elim (row (c .before .before .before .before .before .before .before
   | inr e ↦ rw (e .0, e .1) refl
 ]
 
-pub encoding-spec : {M : Type 1} → statement M
-encoding-spec = tie.close (tie.spec (λ c κs. search needs) sub-t4 sub-t6 returns)
+pub encoding-rows-spec : {M : Type 1} → statement M
+encoding-rows-spec = tie.close (tie.spec (λ c κs. search needs) sub-t4 sub-t6 returns)

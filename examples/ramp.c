@@ -96,6 +96,21 @@ static void segmented_order(void) {
     printf("\nback in progressive order: %s\n", memcmp(sent, back, sizeof sent) == 0 ? "as sent" : "not as sent");
 }
 
+static void show_words(const char *lamp, const char *encoding, ferghulta_words_answer answer) {
+    must_accept(answer.refusal);
+    printf("%-16s %-8s %3u %3u %3u, moved %u\n", lamp, encoding, (unsigned)answer.words.y, (unsigned)answer.words.cb,
+           (unsigned)answer.words.cr, (unsigned)answer.moved);
+}
+
+/* Blue lamps beyond nominal. Before the rules the saturated one's Cb is 257 and the duller one's 248. */
+static void lamps(void) {
+    const ferghulta_codes saturated = {1, 1, 254}, duller = {16, 16, 250};
+    show_words("saturated lamp", "plain", ferghulta_words_of_codes(FERGHULTA_BT709_8, saturated));
+    show_words("saturated lamp", "trimmed", ferghulta_trimmed_words_of_codes(FERGHULTA_BT709_8, saturated));
+    show_words("duller lamp", "plain", ferghulta_words_of_codes(FERGHULTA_BT709_8, duller));
+    show_words("duller lamp", "trimmed", ferghulta_trimmed_words_of_codes(FERGHULTA_BT709_8, duller));
+}
+
 static void show(const char *call, uint32_t refusal) {
     printf("%-32s %2u  %s\n", call, (unsigned)refusal, ferghulta_refusal_text(refusal));
 }
@@ -123,6 +138,8 @@ int main(void) {
     for (uint32_t system = FERGHULTA_BT709_8; system <= FERGHULTA_BT2020_12; system++)
         send_and_read(system, names[system - 1]);
     segmented_order();
+    printf("\nwords of super-whites, BT.709 8 bits\n");
+    lamps();
     printf("\n%-32s %s\n", "refused call", "number and meaning");
     refusals();
     return EXIT_SUCCESS;

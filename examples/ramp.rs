@@ -1,5 +1,5 @@
 //! examples/ramp.c in Rust: the same calls, the same lines. `make example-rust` runs it and compares the two.
-use ferghulta::{read_block, to_progressive, to_segmented, version, Picture, Refusal, System, VERSION};
+use ferghulta::{read_block, to_progressive, to_segmented, version, Codes, Encoding, Limited, Picture, Refusal, System, VERSION};
 
 const WIDTH: usize = 1920;
 const HEIGHT: usize = 32;
@@ -80,6 +80,19 @@ fn segmented_order() -> Result<(), Refusal> {
     Ok(())
 }
 
+/// Blue lamps beyond nominal. Before the rules the saturated one's Cb is 257 and the duller one's 248.
+fn lamps() -> Result<(), Refusal> {
+    let saturated = Codes { r: 1, g: 1, b: 254 };
+    let duller = Codes { r: 16, g: 16, b: 250 };
+    for (lamp, codes) in [("saturated lamp", saturated), ("duller lamp", duller)] {
+        for (name, encoding) in [("plain", Encoding::Plain), ("trimmed", Encoding::Trim)] {
+            let Limited { words, moved } = System::Bt709Bits8.words_of_codes(encoding, codes)?;
+            println!("{lamp:<16} {name:<8} {:>3} {:>3} {:>3}, moved {moved}", words.y, words.cb, words.cr);
+        }
+    }
+    Ok(())
+}
+
 fn show<T>(call: &str, result: Result<T, Refusal>) {
     match result {
         Ok(_) => println!("{call:<32}  0  accepted"),
@@ -119,6 +132,8 @@ fn main() -> Result<(), Refusal> {
         send_and_read(system, name)?;
     }
     segmented_order()?;
+    println!("\nwords of super-whites, BT.709 8 bits");
+    lamps()?;
     println!("\n{:<32} number and meaning", "refused call");
     refusals()
 }

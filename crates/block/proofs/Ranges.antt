@@ -1,7 +1,7 @@
 -- The words of a block in a range: counted outside it section by section, and required of each sample.
 -- Assumes nothing.
 use mathlib.Core.Path.{_≡_, refl, sym, ap, _∙_}
-use mathlib.Core.Bool.{Bool, true, false, _&&_, and-true, and-false, false≢true}
+use mathlib.Core.Bool.{Bool, true, false, _&&_, _||_, and-true, and-false, false≢true}
 use mathlib.Core.Logic.{_⊎_, inl, inr, ⊎-elim}
 use mathlib.Core.List.{List}
 use Prim.Native.Nat.{ℕ, zero, suc, _+_, _*_, _≤_, _<_}
@@ -10,7 +10,7 @@ use native.Mathlib.Numerals.{add-one}
 use native.Mathlib.Omega.{arith}
 use lib.Dec.{ltb, eqb}
 use mir.Val.{boolByte}
-use borrow.Author.Tests.{le-leb, lt-leb, lt-ltb, le-ltb, eqb-true, eqb-false, ne-eqb}
+use borrow.Author.Tests.{le-leb, lt-leb, lt-ltb, le-ltb, ne-eqb}
 use Rattle.exact.proofs.Boolean.{bit-small}
 use Rattle.exact.proofs.Order.{below-or-not}
 use Rattle.systems.specs.declared.Range.{Range}
@@ -20,9 +20,9 @@ use Rattle.matrix.specs.Triples.{wordsWithin}
 use Rattle.block.specs.Read.{fieldAt, sampleAt, withinTo}
 use Rattle.block.specs.Inner.{inRange}
 
--- how often w is outside a range
+-- 1 where w is outside a range
 abbrev pub misses : Range → ℕ → ℕ
-misses r w = boolByte (ltb w (r .low)) + boolByte (ltb (r .high) w)
+misses r w = boolByte (ltb w (r .low) || ltb (r .high) w)
 
 -- both of two tests that pass together
 pub each : (a b : Bool) → (a && b) ≡ true → (a ≡ true) × (b ≡ true)
@@ -37,16 +37,8 @@ none-more n m true z p =
     ap (λ (k : ℕ). eqb k 0) e ∙ sym (and-true (eqb n 0))
 none-more n m false z p = ne-eqb (n + m) 0 (λ e. omega (arith, p refl)) ∙ sym (and-false (eqb n 0))
 
-pub none-of-three : (a b c : ℕ) → eqb (a + b + c) 0 ≡ (eqb a 0 && eqb b 0 && eqb c 0)
-none-of-three a b c = none-more (a + b) c (eqb c 0) (eqb-true c 0) (λ e. above c (eqb-false c 0 e))
-    ∙ ap (λ (t : Bool). t && eqb c 0) (none-more a b (eqb b 0) (eqb-true b 0) (λ e. above b (eqb-false b 0 e)))
-  where
-    above : (n : ℕ) → (n ≡ 0 → ⊥) → 0 < n
-    above zero h = absurd (h refl)
-    above (suc n) h = omega arith
-
-pub misses-small : (r : Range) (w : ℕ) → misses r w ≤ 2
-misses-small r w = omega (arith, bit-small (ltb w (r .low)), bit-small (ltb (r .high) w))
+pub misses-small : (r : Range) (w : ℕ) → misses r w ≤ 1
+misses-small r w = bit-small (ltb w (r .low) || ltb (r .high) w)
 
 within-misses : (r : Range) (w : ℕ) → (within r w ≡ true → misses r w ≡ 0) × (within r w ≡ false → 0 < misses r w)
 within-misses r w = go (below-or-not w (r .low)) (below-or-not (r .high) w)

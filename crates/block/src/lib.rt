@@ -24,7 +24,7 @@ use systems::System;
 ghost use mathlib.Core.Path.{_≡_};
 ghost use mathlib.Core.List.{_++_};
 ghost use Prim.Native.Nat.{_+_, _*_, _^_, _<_, _≤_};
-ghost use lib.Dec.{leb, eqb};
+ghost use lib.Dec.{leb};
 ghost use lib.IntN.{natAbs};
 ghost use lib.ListN.{length, take, drop};
 ghost use lib.Seq.{sets};
@@ -204,16 +204,17 @@ fn all_in(range: Range, bytes: &[u8], samples: u16) -> bool
     ensures { λ r. ⌜ r ≡ withinTo range (sampleAt (now (bytes .entry)) samples) samples ⌝ }
 {
     let n = samples as usize;
-    let y = outside(bytes, luma_word(0), n, range);
-    let cb = outside(bytes, cb_word(n, 0), n, range);
-    let cr = outside(bytes, cr_word(n, 0), n, range);
-    y + cb + cr == 0
+    let y = in_range(bytes, luma_word(0), n, range);
+    let cb = in_range(bytes, cb_word(n, 0), n, range);
+    let cr = in_range(bytes, cr_word(n, 0), n, range);
+    y & cb & cr
 }
 
-// Counts the words outside the range: 0 where all are in it. No word ends the loop, so that several are tested at a time.
-fn outside(bytes: &[u8], at: usize, count: usize, range: Range) -> u16
+// Whether the words from a place on are in a range. Those outside are counted and no word ends the loop, so that several are tested
+// at a time.
+fn in_range(bytes: &[u8], at: usize, count: usize, range: Range) -> bool
     requires { ⌜ (at + 2 * count ≤ length (now bytes)) × (at ≤ 65536) × (count ≤ 7680) ⌝ }
-    ensures { λ r. ⌜ (eqb r 0 ≡ inRange range (now (bytes .entry)) at count) × (r ≤ 2 * count) ⌝ }
+    ensures { λ r. ⌜ r ≡ inRange range (now (bytes .entry)) at count ⌝ }
 {
     let low = range.low;
     let high = range.high;
@@ -221,10 +222,10 @@ fn outside(bytes: &[u8], at: usize, count: usize, range: Range) -> u16
     let mut i: usize = 0;
     while i < count {
         let w = field_at(bytes, at + 2 * i);
-        bad += (w < low) as u16 + (high < w) as u16;
+        bad += ((w < low) | (high < w)) as u16;
         i += 1;
     }
-    bad
+    bad == 0
 }
 
 // Decodes the samples of a judged block into the front of a slice.

@@ -1,8 +1,8 @@
-use mathlib.Core.Path.{_≡_, sym, _∙_}
+use mathlib.Core.Path.{_≡_, sym}
 use Prim.Native.Nat.{_+_, _*_}
 use native.Mathlib.Omega.{arith}
 use denote.Ref.{now}
-use Rattle.block.proofs.Ranges.{none-of-three, within-by-sections}
+use Rattle.block.proofs.Ranges.{within-by-sections}
 use borrow.Author.Needs.{needs}
 use Rattle.block.proofs.all_in.Statement.{statement}
 use Rattle.block.proofs.all_in.Tie as tie
@@ -16,11 +16,10 @@ returns c =
     let in-y : luma .before .luma-word .result ≡ 5 = luma .before .luma-word .ensures in
     let in-cb : cb .before .cb-word .result ≡ 7 + 2 * n = omega (arith, cb .before .cb-word .ensures) in
     let in-cr : c .before .cr-word .result ≡ 9 + 4 * n = omega (arith, c .before .cr-word .ensures) in
-    none-of-three (luma .outside .result) (cb .outside2 .result) (c .outside3 .result)
-    ∙ rw (luma .outside .ensures .0, cb .outside2 .ensures .0, c .outside3 .ensures .0, in-y, in-cb, in-cr) (sym (within-by-sections (a .range) (now (a .bytes)) n n))
+    rw (luma .in-range .ensures, cb .in-range2 .ensures, c .in-range3 .ensures, in-y, in-cb, in-cr) (sym (within-by-sections (a .range) (now (a .bytes)) n n))
 
 pub all-in-spec : {M : Type 1} → statement M
 all-in-spec =
     tie.close
     (tie.spec (λ c κs. search needs) (λ c κs. search needs) (λ c κs. search needs) (λ c κs. search needs) (λ c κs. search needs)
-    (λ c κs. search needs) (λ c. search needs) (λ c. search needs) returns)
+    (λ c κs. search needs) returns)

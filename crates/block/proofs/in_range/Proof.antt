@@ -1,16 +1,16 @@
 use mathlib.Core.Path.{_≡_, refl, ap, _∙_}
-use Prim.Native.Nat.{_*_, _-_, _≤_}
+use Prim.Native.Nat.{_-_, _≤_}
 use native.Mathlib.Omega.{arith}
 use lib.Dec.{eqb}
 use denote.Ref.{now}
 use Rattle.block.specs.Inner.{inRange}
 use Rattle.block.proofs.Ranges.{misses-small, range-more}
 use borrow.Author.Needs.{needs}
-use Rattle.block.proofs.outside.Statement.{statement}
-use Rattle.block.proofs.outside.Tie as tie
+use Rattle.block.proofs.in_range.Statement.{statement}
+use Rattle.block.proofs.in_range.Tie as tie
 
 abbrev Inv-loop : tie.InvT-loop
-Inv-loop bytes at count low high bad₀ i₀ bad i = (i ≤ count) × (bad ≤ 2 * i) × (eqb bad 0 ≡ inRange (record { low = low; high = high }) bytes at i)
+Inv-loop bytes at count low high bad₀ i₀ bad i = (i ≤ count) × (bad ≤ i) × (eqb bad 0 ≡ inRange (record { low = low; high = high }) bytes at i)
 
 abbrev μ-loop : tie.MeasureT-loop
 μ-loop bytes at count low high bad₀ i₀ bad i = count - i
@@ -21,9 +21,6 @@ loop-holds c = (omega arith, omega arith, refl)
 
 add-bad : tie.Need-add-bad Inv-loop μ-loop
 add-bad c = omega (arith, misses-small (c .before .before .before .before .args .range) (c .field-at .result))
-
-add-bad-2 : tie.Need-add-bad-2 Inv-loop μ-loop
-add-bad-2 c = omega (arith, misses-small (c .before .before .before .before .args .range) (c .field-at .result))
 
 loop-again : tie.Need-loop-again Inv-loop μ-loop
 loop-again c =
@@ -36,10 +33,10 @@ returns c =
     let a = c .before .before .before .args in
     let l = c .before .loop in
     let e : l .i ≡ a .count = omega arith in
-    (l .inv .2 ∙ ap (inRange (a .range) (now (a .bytes)) (a .at)) e, omega arith)
+    l .inv .2 ∙ ap (inRange (a .range) (now (a .bytes)) (a .at)) e
 
-pub outside-spec : {M : Type 1} → statement M
-outside-spec =
+pub in-range-spec : {M : Type 1} → statement M
+in-range-spec =
     tie.close
-    (tie.spec Inv-loop μ-loop loop-holds (λ c. search needs) (λ c. search needs) (λ c κs. search needs) (λ c. search needs) (λ c. search needs) add-bad
-    add-bad-2 (λ c. search needs) (λ c. search needs) loop-again returns)
+    (tie.spec Inv-loop μ-loop loop-holds (λ c. search needs) (λ c. search needs) (λ c κs. search needs) (λ c. search needs) add-bad
+    (λ c. search needs) (λ c. search needs) loop-again returns)

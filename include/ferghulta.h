@@ -62,9 +62,8 @@ extern "C" {
 FERGHULTA_MUST_USE uint32_t ferghulta_version(void);
 
 /* A system is a matrix and a bit depth n; its scale s is 2^(n - 8). Video data runs from s to 255s - 1, for R', G', B',
- * Y', Cb and Cr alike (request 2026-03); within it, nominal R', G', B' and Y' run from 16s to 235s, nominal Cb and Cr
- * from 16s to 240s. Each call says which of the two it takes. Calls take the system as a uint32_t and refuse any other
- * number. */
+ * Y', Cb and Cr alike; within it, nominal R', G', B' and Y' run from 16s to 235s, nominal Cb and Cr from 16s to 240s.
+ * Each call says which of the two it takes. Calls take the system as a uint32_t and refuse any other number. */
 enum ferghulta_system {
     FERGHULTA_BT709_8 = 1,   /* s = 1 */
     FERGHULTA_BT709_10 = 2,  /* s = 4 */

@@ -1,4 +1,5 @@
--- The starred bench values of document 01, with those of request 2026-03 in their places, shown of the definitions: one table, one theorem.
+-- The starred bench values of document 01, with those of request 2026-03 in their places and two lamps on which its rules act, shown of
+-- the definitions: one table, one theorem.
 -- Assumes nothing.
 use mathlib.Core.Path.{_≡_, refl}
 use mathlib.Core.List.{List, [], _∷_, map}
@@ -13,16 +14,17 @@ use Rattle.light.proofs.Spans.{span-by-ends}
 use Rattle.light.specs.Light.{codeOfLight, spanOfCode}
 use Rattle.signals.specs.Signals.{signalCodes}
 use Rattle.exact.specs.Signed.{rounded}
-use Rattle.matrix.specs.declared.Encoding.the-variants.{Plain}
+use Rattle.matrix.specs.declared.Encoding.the-variants.{Plain, Trim}
 use Rattle.matrix.specs.Triples.{limited, codesAt, wordsOfCodes, codesOfWords}
 
--- what is given, with its system: a light, a code's span, a signal by its 32 bits in all three components, R, G and B codes, or
--- Y', Cb and Cr words
+-- what is given, with its system: a light, a code's span, a signal by its 32 bits in all three components, R, G and B codes in plain
+-- and in trim encoding, or Y', Cb and Cr words
 data Case : Type 0 where
   light : ℕ → ℕ → Case
   span : ℕ → ℕ → Case
   signal : ℕ → ℕ → Case
   codes : ℕ → ℕ → ℕ → ℕ → Case
+  trimmed : ℕ → ℕ → ℕ → ℕ → Case
   words : ℕ → ℕ → ℕ → ℕ → Case
 
 -- the values that the definitions give
@@ -34,6 +36,8 @@ answer (signal n bits) =
     signalCodes n (record { r = e; g = e; b = e }) and-then λ c. accepted (c .r ∷ c .g ∷ c .b ∷ [])
 answer (codes n r g b) =
     wordsOfCodes n Plain (record { r = r; g = g; b = b }) and-then λ l. accepted (l .words .y ∷ l .words .cb ∷ l .words .cr ∷ [])
+answer (trimmed n r g b) =
+    wordsOfCodes n Trim (record { r = r; g = g; b = b }) and-then λ l. accepted (l .words .y ∷ l .words .cb ∷ l .words .cr ∷ l .moved ∷ [])
 answer (words n y cb cr) =
     codesOfWords n (record { y = y; cb = cb; cr = cr }) and-then λ c. accepted (c .codes .r ∷ c .codes .g ∷ c .codes .b ∷ c .clips .total ∷ [])
 
@@ -63,6 +67,8 @@ table =
     ∷ row (words 1 16 240 240) (188 ∷ 1 ∷ 219 ∷ 1 ∷ [])
     ∷ row (words 1 15 128 128) (15 ∷ 15 ∷ 15 ∷ 0 ∷ [])
     ∷ record { given = words 1 0 128 128; result = refused 6 }
+    ∷ row (codes 1 1 1 254) (19 ∷ 254 ∷ 116 ∷ []) ∷ row (trimmed 1 1 1 254) (19 ∷ 254 ∷ 116 ∷ 1 ∷ [])
+    ∷ row (codes 1 16 16 250) (33 ∷ 248 ∷ 117 ∷ []) ∷ row (trimmed 1 16 16 250) (33 ∷ 240 ∷ 117 ∷ 1 ∷ [])
     ∷ []
 
 span-of-17 : (leastLight Bt709Bits8 17 ≡ 34) × (greatestLight Bt709Bits8 17 ≡ 99)

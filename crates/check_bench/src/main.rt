@@ -1,4 +1,5 @@
-// The bench values of document 01, with those of request 2026-03 in their places, run through the public calls, a line each. proofs/Bench.antt has the starred ones as a theorem.
+// The bench values of document 01, with those of request 2026-03 in their places and two lamps on which its rules act, run through
+// the public calls, a line each. proofs/Bench.antt has the starred ones as a theorem.
 use libc::STDOUT_FILENO;
 use light::CodeSpan;
 use light::LightCode;
@@ -34,6 +35,10 @@ fn main() {
     of_words(1, 16, 240, 240);
     of_words(1, 15, 128, 128);
     of_words(1, 0, 128, 128);
+    of_codes(1, 1, 1, 254);
+    of_trimmed(1, 1, 1, 254);
+    of_codes(1, 16, 16, 250);
+    of_trimmed(1, 16, 16, 250);
 }
 
 fn ends(system: u32) {
@@ -83,6 +88,21 @@ fn of_codes(system: u32, r: u16, g: u16, b: u16) {
     io::write_all(STDOUT_FILENO, b":");
     match matrix::words_of_codes(system, Encoding::Plain, Codes { r, g, b }) {
         Encoded::Words(l) => three(l.words.y, l.words.cb, l.words.cr),
+        Encoded::Refused(r) => refused(r),
+    }
+    io::write_all(STDOUT_FILENO, b"\n");
+}
+
+fn of_trimmed(system: u32, r: u16, g: u16, b: u16) {
+    given(system, b" codes");
+    three(r, g, b);
+    io::write_all(STDOUT_FILENO, b" trimmed:");
+    match matrix::words_of_codes(system, Encoding::Trim, Codes { r, g, b }) {
+        Encoded::Words(l) => {
+            three(l.words.y, l.words.cb, l.words.cr);
+            io::write_all(STDOUT_FILENO, b" moved ");
+            number(l.moved as u64);
+        }
         Encoded::Refused(r) => refused(r),
     }
     io::write_all(STDOUT_FILENO, b"\n");

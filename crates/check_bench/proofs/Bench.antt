@@ -14,17 +14,17 @@ use Rattle.light.proofs.Spans.{span-by-ends}
 use Rattle.light.specs.Light.{codeOfLight, spanOfCode}
 use Rattle.signals.specs.Signals.{signalCodes}
 use Rattle.exact.specs.Signed.{rounded}
+use Rattle.matrix.specs.declared.Encoding.{Encoding}
 use Rattle.matrix.specs.declared.Encoding.the-variants.{Plain, Trim}
 use Rattle.matrix.specs.Triples.{limited, codesAt, wordsOfCodes, codesOfWords}
 
--- what is given, with its system: a light, a code's span, a signal by its 32 bits in all three components, R, G and B codes in plain
--- and in trim encoding, or Y', Cb and Cr words
+-- what is given, with its system: a light, a code's span, a signal by its 32 bits in all three components, R, G and B codes with an
+-- encoding, or Y', Cb and Cr words
 data Case : Type 0 where
   light : ℕ → ℕ → Case
   span : ℕ → ℕ → Case
   signal : ℕ → ℕ → Case
-  codes : ℕ → ℕ → ℕ → ℕ → Case
-  trimmed : ℕ → ℕ → ℕ → ℕ → Case
+  codes : ℕ → Encoding → ℕ → ℕ → ℕ → Case
   words : ℕ → ℕ → ℕ → ℕ → Case
 
 -- the values that the definitions give
@@ -34,10 +34,8 @@ answer (span n d) = spanOfCode n d and-then λ s. accepted (s .least ∷ s .grea
 answer (signal n bits) =
     let e = ofBits binary32 bits in
     signalCodes n (record { r = e; g = e; b = e }) and-then λ c. accepted (c .r ∷ c .g ∷ c .b ∷ [])
-answer (codes n r g b) =
-    wordsOfCodes n Plain (record { r = r; g = g; b = b }) and-then λ l. accepted (l .words .y ∷ l .words .cb ∷ l .words .cr ∷ [])
-answer (trimmed n r g b) =
-    wordsOfCodes n Trim (record { r = r; g = g; b = b }) and-then λ l. accepted (l .words .y ∷ l .words .cb ∷ l .words .cr ∷ l .moved ∷ [])
+answer (codes n e r g b) =
+    wordsOfCodes n e (record { r = r; g = g; b = b }) and-then λ l. accepted (l .words .y ∷ l .words .cb ∷ l .words .cr ∷ l .moved ∷ [])
 answer (words n y cb cr) =
     codesOfWords n (record { y = y; cb = cb; cr = cr }) and-then λ c. accepted (c .codes .r ∷ c .codes .g ∷ c .codes .b ∷ c .clips .total ∷ [])
 
@@ -60,15 +58,15 @@ table =
     ∷ row (light 4 0) (256 ∷ []) ∷ row (light 4 65535) (3760 ∷ [])
     ∷ row (signal 1 0x3f00_0000) (126 ∷ 126 ∷ 126 ∷ [])
     ∷ row (signal 2 0x3ec0_0000) (393 ∷ 393 ∷ 393 ∷ [])
-    ∷ row (codes 1 235 16 16) (63 ∷ 102 ∷ 240 ∷ [])
+    ∷ row (codes 1 Plain 235 16 16) (63 ∷ 102 ∷ 240 ∷ 0 ∷ [])
     ∷ row (words 1 63 102 240) (235 ∷ 17 ∷ 16 ∷ 0 ∷ [])
-    ∷ row (codes 1 16 235 16) (173 ∷ 42 ∷ 26 ∷ [])
-    ∷ row (codes 3 940 64 64) (294 ∷ 387 ∷ 960 ∷ [])
+    ∷ row (codes 1 Plain 16 235 16) (173 ∷ 42 ∷ 26 ∷ 0 ∷ [])
+    ∷ row (codes 3 Plain 940 64 64) (294 ∷ 387 ∷ 960 ∷ 0 ∷ [])
     ∷ row (words 1 16 240 240) (188 ∷ 1 ∷ 219 ∷ 1 ∷ [])
     ∷ row (words 1 15 128 128) (15 ∷ 15 ∷ 15 ∷ 0 ∷ [])
     ∷ record { given = words 1 0 128 128; result = refused 6 }
-    ∷ row (codes 1 1 1 254) (19 ∷ 254 ∷ 116 ∷ []) ∷ row (trimmed 1 1 1 254) (19 ∷ 254 ∷ 116 ∷ 1 ∷ [])
-    ∷ row (codes 1 16 16 250) (33 ∷ 248 ∷ 117 ∷ []) ∷ row (trimmed 1 16 16 250) (33 ∷ 240 ∷ 117 ∷ 1 ∷ [])
+    ∷ row (codes 1 Plain 1 1 254) (19 ∷ 254 ∷ 116 ∷ 1 ∷ []) ∷ row (codes 1 Trim 1 1 254) (19 ∷ 254 ∷ 116 ∷ 1 ∷ [])
+    ∷ row (codes 1 Plain 16 16 250) (33 ∷ 248 ∷ 117 ∷ 0 ∷ []) ∷ row (codes 1 Trim 16 16 250) (33 ∷ 240 ∷ 117 ∷ 1 ∷ [])
     ∷ []
 
 span-of-17 : (leastLight Bt709Bits8 17 ≡ 34) × (greatestLight Bt709Bits8 17 ≡ 99)

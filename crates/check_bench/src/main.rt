@@ -84,20 +84,18 @@ fn of_signal(system: u32, e: f32, name: &[u8]) {
 
 fn of_codes(system: u32, r: u16, g: u16, b: u16) {
     given(system, b" codes");
-    three(r, g, b);
-    io::write_all(STDOUT_FILENO, b":");
-    match matrix::words_of_codes(system, Encoding::Plain, Codes { r, g, b }) {
-        Encoded::Words(l) => three(l.words.y, l.words.cb, l.words.cr),
-        Encoded::Refused(r) => refused(r),
-    }
-    io::write_all(STDOUT_FILENO, b"\n");
+    encoded(system, Encoding::Plain, Codes { r, g, b });
 }
 
 fn of_trimmed(system: u32, r: u16, g: u16, b: u16) {
-    given(system, b" codes");
-    three(r, g, b);
-    io::write_all(STDOUT_FILENO, b" trimmed:");
-    match matrix::words_of_codes(system, Encoding::Trim, Codes { r, g, b }) {
+    given(system, b" trimmed codes");
+    encoded(system, Encoding::Trim, Codes { r, g, b });
+}
+
+fn encoded(system: u32, encoding: Encoding, codes: Codes) {
+    three(codes.r, codes.g, codes.b);
+    io::write_all(STDOUT_FILENO, b":");
+    match matrix::words_of_codes(system, encoding, codes) {
         Encoded::Words(l) => {
             three(l.words.y, l.words.cb, l.words.cr);
             io::write_all(STDOUT_FILENO, b" moved ");

@@ -46,8 +46,8 @@ pub struct CodesAnswer {
 #[derive(Debug, PartialEq)]
 pub struct CountedAnswer {
     pub refusal: u32,
-    count: u32,
-    triple: [u16; 3],
+    pub count: u32,
+    pub triple: [u16; 3],
 }
 
 #[repr(C)]

@@ -1,4 +1,4 @@
-//! The bench values of document 01 and of request 2026-03, of the exact program itself.
+//! The bench values of document 01 and of requests 2026-03 and 2026-04, of the exact program itself.
 use crate::exact::*;
 
 pub fn check() {
@@ -47,16 +47,22 @@ fn triples() {
 fn rules() {
     let plain = |codes| words_of_codes(1, Encoding::Plain, codes);
     let trim = |codes| words_of_codes(1, Encoding::Trim, codes);
+    let formerly = |codes| formerly_trimmed(1, codes);
     assert_eq!(plain([1, 1, 254]), Ok(([19, 254, 116], 1)));
-    assert_eq!(trim([1, 1, 254]), Ok(([19, 254, 116], 1)));
+    assert_eq!(trim([1, 1, 254]), Ok(([19, 240, 116], 1)));
+    assert_eq!(formerly([1, 1, 254]), Ok(([19, 254, 116], 1)));
     assert_eq!(plain([254, 254, 1]), Ok(([236, 1, 140], 1)));
-    assert_eq!(trim([254, 254, 1]), Ok(([235, 1, 140], 2)));
+    assert_eq!(trim([254, 254, 1]), Ok(([235, 16, 140], 2)));
+    assert_eq!(formerly([254, 254, 1]), Ok(([235, 1, 140], 2)));
     assert_eq!(plain([16, 16, 250]), Ok(([33, 248, 117], 0)));
     assert_eq!(trim([16, 16, 250]), Ok(([33, 240, 117], 1)));
+    assert_eq!(formerly([16, 16, 250]), Ok(([33, 240, 117], 1)));
     assert_eq!(plain([254; 3]), Ok(([254, 128, 128], 0)));
     assert_eq!(trim([254; 3]), Ok(([235, 128, 128], 1)));
+    assert_eq!(formerly([254; 3]), Ok(([235, 128, 128], 1)));
     assert_eq!(plain([255, 16, 16]), Err(refusal::CODE));
     assert_eq!(trim([16, 0, 16]), Err(refusal::CODE));
+    assert_eq!(formerly([16, 0, 16]), Err(refusal::CODE));
 }
 
 fn blocks() {

@@ -1,5 +1,5 @@
 //! Document 01 in exact arithmetic: whole numbers only, written from the document alone, nothing shared with the library.
-//! Which codes and words are accepted, and the rules on words, are those of request 2026-03.
+//! Which codes and words are accepted, and the rules on words, are those of request 2026-03; their order is request 2026-04's.
 //! A call answers its values, or `Err` with the refusal's number.
 use crate::natural::Natural;
 use std::ops::RangeInclusive;
@@ -355,23 +355,51 @@ fn trim(encoding: Encoding, nominal: &RangeInclusive<u16>, word: i128) -> Option
     }
 }
 
-/// 'The guard is tried first and only one rule acts on a word.' The words, and how many were moved.
-fn encoded_in(system: &System, encoding: Encoding, codes: [u16; 3]) -> ([u16; 3], u32) {
-    // Before the rules a word may be below 0 or above 256s.
-    let before = word_values(system, codes).map(int);
+/// Before the rules a word may be below 0 or above 256s.
+pub fn words_before_rules(system: &System, codes: [u16; 3]) -> [i128; 3] {
+    word_values(system, codes).map(int)
+}
+
+/// The words, and how many were moved. The rules take a nominal range and a word, and give the end to which the word goes, if any.
+fn encoded_by(
+    system: &System,
+    codes: [u16; 3],
+    rules: impl Fn(&RangeInclusive<u16>, i128) -> Option<u16>,
+) -> ([u16; 3], u32) {
+    let before = words_before_rules(system, codes);
     let (luma, difference) = (system.nominal(), system.nominal_difference());
     let nominal = [&luma, &difference, &difference];
-    let ends = [0, 1, 2].map(|place| {
-        let word = before[place];
-        guard(system, word).or_else(|| trim(encoding, nominal[place], word))
-    });
-    brought(before, ends)
+    brought(before, [0, 1, 2].map(|place| rules(nominal[place], before[place])))
+}
+
+/// 'Trim is now tried first if chosen, then the guard.' Still only one rule acts on a word.
+fn encoded_in(system: &System, encoding: Encoding, codes: [u16; 3]) -> ([u16; 3], u32) {
+    encoded_by(system, codes, |nominal, word| {
+        trim(encoding, nominal, word).or_else(|| guard(system, word))
+    })
+}
+
+/// Trim encoding as request 2026-03 had it, to compare: 'The guard is tried first and only one rule acts on a word.'
+fn formerly_trimmed_in(system: &System, codes: [u16; 3]) -> ([u16; 3], u32) {
+    encoded_by(system, codes, |nominal, word| {
+        guard(system, word).or_else(|| trim(Encoding::Trim, nominal, word))
+    })
+}
+
+fn system_of_codes(number: u32, codes: [u16; 3]) -> Outcome<&'static System> {
+    let system = system(number)?;
+    require(are_all_in(system.video_data(), codes), refusal::CODE)?;
+    Ok(system)
 }
 
 pub fn words_of_codes(number: u32, encoding: Encoding, codes: [u16; 3]) -> Outcome<([u16; 3], u32)> {
-    let system = system(number)?;
-    require(are_all_in(system.video_data(), codes), refusal::CODE)?;
+    let system = system_of_codes(number, codes)?;
     Ok(encoded_in(system, encoding, codes))
+}
+
+pub fn formerly_trimmed(number: u32, codes: [u16; 3]) -> Outcome<([u16; 3], u32)> {
+    let system = system_of_codes(number, codes)?;
+    Ok(formerly_trimmed_in(system, codes))
 }
 
 /// What stands inside INT for R, G and B of the words Y', Cb and Cr, over the denominators of q and the weights.

@@ -53,6 +53,15 @@ impl Effort {
         }
     }
 
+    /// For answers that another comparison has too: a third of the inputs, but all 8-bit triples where those are asked for.
+    fn third(&self) -> Effort {
+        Effort {
+            cases: self.cases / 3,
+            stride: 3 * self.stride,
+            every: self.every,
+        }
+    }
+
     fn triple_stride(&self) -> usize {
         if self.every {
             1
@@ -79,6 +88,7 @@ fn compare(effort: &Effort, seed: u64) -> bool {
         & lists::lists(effort, random)
         & pictures::rows_of_every_light(effort, random)
         & segments::segments(effort, random)
+        & values::trim_before_guard(effort, random)
 }
 
 /// The form, and cases and seed where they are given.

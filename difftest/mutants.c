@@ -128,12 +128,12 @@ static void spoil_difference(uint32_t system, int trim, int64_t before, uint16_t
 {
     int s = scale(system), first = s, last = 255 * s - 1, top = 240 * s;
     int below = before < first, above = before > last;
-    if ((mutant(29) || mutant(30)) && trim && (below || above)) { /* trim before the guard; or after it as well */
-        *word = (uint16_t)(below ? 16 * s : top);
-        *moved += mutant(30);
-    }
+    if (mutant(29) && trim && (below || above))
+        *word = (uint16_t)(below ? first : last); /* the guard before trim */
+    if (mutant(30) && trim && (below || above))
+        *moved += 1; /* the guard and then trim, each counted */
     if (mutant(31) && before < 0)
-        *word = (uint16_t)last; /* a word below 0 wraps and is above video data */
+        *word = (uint16_t)(trim ? top : last); /* a word below 0 wraps and is above every range */
     if (mutant(32) && !trim && above) { /* the guard at 255s */
         *word = (uint16_t)(255 * s);
         *moved -= before == 255 * s;
@@ -142,10 +142,14 @@ static void spoil_difference(uint32_t system, int trim, int64_t before, uint16_t
         *word = (uint16_t)(before < 0 ? 0 : before);
         *moved -= before >= 0;
     }
-    if (mutant(34) && trim && !above && before > 235 * s) { /* trim to the end of Y' */
+    if (mutant(34) && trim && before > 235 * s) { /* trim to the end of Y' */
         *word = (uint16_t)(235 * s);
         *moved += before <= top;
     }
+    if (mutant(44))
+        *moved -= below || above; /* a word beyond video data is not counted */
+    if (mutant(45) && trim && below)
+        *word = (uint16_t)first; /* trim before the guard above video data alone */
 }
 
 static ferghulta_words_answer spoilt(uint32_t system, int trim, ferghulta_codes codes, ferghulta_words_answer answer)

@@ -327,6 +327,73 @@ pub fn codes_of_words(effort: &Effort, random: &mut Pseudorandom) -> bool {
     tally.end()
 }
 
+// ---- what request 2026-04 changes
+
+/// The lamps of the request, as codes of system 1.
+const LAMPS: [(&str, [u16; 3]); 2] = [("saturated", [1, 1, 254]), ("duller", [16, 16, 250])];
+
+/// The answer with the guard tried first, of the exact program, and the library's answer.
+fn formerly_and_now(system: u32, codes: [u16; 3]) -> [CountedAnswer; 2] {
+    let formerly = exact::formerly_trimmed(system, codes).into();
+    let now = unsafe { library::ferghulta_trimmed_words_of_codes(system, codes.into()) };
+    [formerly, now]
+}
+
+/// In trim encoding, 'a colour word above the video range becomes 240s instead of 255s−1 and one below becomes 16s instead of s'.
+fn difference_changes(scale: i128, before: i128, [formerly, now]: [u16; 2]) -> bool {
+    let (formerly, now) = (i128::from(formerly), i128::from(now));
+    if before > 255 * scale - 1 {
+        (formerly, now) == (255 * scale - 1, 240 * scale)
+    } else if before < scale {
+        (formerly, now) == (scale, 16 * scale)
+    } else {
+        formerly == now
+    }
+}
+
+/// Whether an accepted triple's words change as the request says and no more. No Y' is beyond video data, so none changes.
+fn words_change(system: &System, codes: [u16; 3], [formerly, now]: &[CountedAnswer; 2]) -> bool {
+    let (s, before) = (system.scale, exact::words_before_rules(system, codes));
+    let both = |place: usize| [formerly.triple[place], now.triple[place]];
+    (s..=255 * s - 1).contains(&before[0])
+        && formerly.triple[0] == now.triple[0]
+        && formerly.count == now.count
+        && [1, 2].iter().all(|&place| difference_changes(s, before[place], both(place)))
+}
+
+fn changed(tally: &mut Tally, system: u32, codes: [u16; 3]) {
+    let answers = formerly_and_now(system, codes);
+    let [formerly, now] = &answers;
+    let agree = match formerly.refusal {
+        0 => now.refusal == 0 && words_change(known(system), codes, &answers),
+        _ => now == formerly,
+    };
+    tally.count(formerly.refusal, agree, || {
+        format!("system {system} codes {codes:?}: {now:?}, formerly {formerly:?}")
+    });
+}
+
+fn shown([first, second, third]: [u16; 3]) -> String {
+    format!("{first} {second} {third}")
+}
+
+fn show_lamp(lamp: &str, codes: [u16; 3]) {
+    let [formerly, now] = formerly_and_now(1, codes).map(|answer| shown(answer.triple));
+    let codes = shown(codes);
+    println!("{lamp} lamp, codes {codes}, trimmed: formerly {formerly}, now {now}");
+}
+
+/// The library's trimmed words beside those of the former order, judged by the request's words.
+pub fn trim_before_guard(effort: &Effort, random: &mut Pseudorandom) -> bool {
+    let mut tally = Tally::new("trim_before_guard");
+    for (lamp, codes) in LAMPS {
+        show_lamp(lamp, codes);
+        changed(&mut tally, 1, codes);
+    }
+    all_triples(&effort.third(), random, |system, codes| changed(&mut tally, system, codes));
+    tally.end()
+}
+
 // ---- what the calling convention leaves open
 
 /// Three 16-bit numbers in a register whose fourth is anything.

@@ -102,11 +102,11 @@ static void triples(void) {
 static void rules(void) {
     ferghulta_codes lamp = {1, 1, 254}, yellow = {254, 254, 1}, duller = {16, 16, 250}, timing = {16, 255, 16};
     ferghulta_words lamp_words = {19, 254, 116}, yellow_words = {236, 1, 140}, duller_words = {33, 248, 117};
-    ferghulta_words yellow_trimmed = {235, 1, 140}, duller_trimmed = {33, 240, 117};
+    ferghulta_words lamp_trimmed = {19, 240, 116}, yellow_trimmed = {235, 16, 140}, duller_trimmed = {33, 240, 117};
     expect_encoded(ferghulta_words_of_codes(1, lamp), lamp_words, 1);
     expect_encoded(ferghulta_words_of_codes(1, yellow), yellow_words, 1);
     expect_encoded(ferghulta_words_of_codes(1, duller), duller_words, 0);
-    expect_encoded(ferghulta_trimmed_words_of_codes(1, lamp), lamp_words, 1);
+    expect_encoded(ferghulta_trimmed_words_of_codes(1, lamp), lamp_trimmed, 1);
     expect_encoded(ferghulta_trimmed_words_of_codes(1, yellow), yellow_trimmed, 2);
     expect_encoded(ferghulta_trimmed_words_of_codes(1, duller), duller_trimmed, 1);
     expect("timing codes", ferghulta_words_of_codes(1, timing).refusal, FERGHULTA_REFUSED_CODE);

@@ -4,8 +4,8 @@
 
 use core::fmt;
 
-/// The version of the header that this file follows, as one number: 20000 is 2.0.0.
-pub const VERSION: u32 = 20000;
+/// The version of the header that this file follows, as one number: 30000 is 3.0.0.
+pub const VERSION: u32 = 30000;
 
 /// The version of the archive that the program is linked with.
 #[must_use]
@@ -123,7 +123,7 @@ pub struct Words {
     pub cr: u16,
 }
 
-/// Which rules act on the words of a code triple: the guard alone, or the guard and then trim.
+/// Which rules are tried on the words of a code triple: the guard alone, or trim and then the guard.
 #[derive(Clone, Copy, Debug, PartialEq, Eq)]
 pub enum Encoding {
     Plain,

@@ -26,12 +26,12 @@
 #include <stddef.h>
 #include <stdint.h>
 
-#define FERGHULTA_VERSION_MAJOR 2
+#define FERGHULTA_VERSION_MAJOR 3
 #define FERGHULTA_VERSION_MINOR 0
 #define FERGHULTA_VERSION_PATCH 0
-#define FERGHULTA_VERSION "2.0.0"
+#define FERGHULTA_VERSION "3.0.0"
 
-/* The version as one number to compare, in #if too: 20000 is 2.0.0. CHANGELOG.md says what a version promises. */
+/* The version as one number to compare, in #if too: 30000 is 3.0.0. CHANGELOG.md says what a version promises. */
 #define FERGHULTA_VERSION_NUMBER                                                                                       \
     (10000 * FERGHULTA_VERSION_MAJOR + 100 * FERGHULTA_VERSION_MINOR + FERGHULTA_VERSION_PATCH)
 
@@ -179,13 +179,13 @@ typedef struct ferghulta_words_answer {
     ferghulta_words words;
 } ferghulta_words_answer;
 
-/* Y', Cb and Cr of R', G', B' codes of video data, in plain encoding: the guard rule brings a word beyond video data to
- * its nearest end. Of nominal codes no word is moved. Refused: 1, 6 (a code is not video data). */
+/* Y', Cb and Cr of R', G', B' codes of video data, in plain encoding: the guard rule alone brings a word beyond video
+ * data to its nearest end. Of nominal codes no word is moved. Refused: 1, 6 (a code is not video data). */
 FERGHULTA_MUST_USE ferghulta_words_answer ferghulta_words_of_codes(uint32_t system, ferghulta_codes codes);
 
-/* The same in trim encoding: where the guard rule does not act, the trim rule brings a word beyond nominal to the
- * nominal end. Only one rule acts on a word, so one beyond video data leaves at s or 255s - 1, not at the nominal end.
- * Refused: 1, 6 (a code is not video data). */
+/* The same in trim encoding: the trim rule is tried first and brings a word beyond nominal to the nominal end, also one
+ * beyond video data. So every word is nominal, and the guard rule finds none to move. Refused: 1, 6 (a code is not
+ * video data). */
 FERGHULTA_MUST_USE ferghulta_words_answer ferghulta_trimmed_words_of_codes(uint32_t system, ferghulta_codes codes);
 
 typedef struct ferghulta_decoded_answer {

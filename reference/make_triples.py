@@ -4,9 +4,10 @@ All numbers are unsigned, low byte first. The same bytes come at every run.
 
 - grid: Y', Cb and Cr (1 byte each) of each triple of system 1 whose R', G' and B' are at one of 40 levels, B' changing fastest.
   Level i is the code 16 + 219·i/39, fractions dropped.
-- words, trimmed, words_refused: records of system (4 bytes), refusal or 0, R, G, B, Y', Cb, Cr and the moved count (2 bytes each;
-  the last four 0 where refused). words has the answers of plain encoding and trimmed those of trim encoding, for the same codes;
-  the answers of words_refused are those of both.
+- words, trimmed, formerly_trimmed, words_refused: records of system (4 bytes), refusal or 0, R, G, B, Y', Cb, Cr and the moved
+  count (2 bytes each; the last four 0 where refused). words has the answers of plain encoding, trimmed those of trim encoding and
+  formerly_trimmed those of trim encoding before request 2026-04, for the same codes in the same order; the answers of
+  words_refused are those of both encodings.
 - codes, codes_refused: records of system (4 bytes), refusal or 0, Y', Cb, Cr, R, G, B and the clipped count (2 bytes each; the
   last four 0 where refused).
 """
@@ -39,6 +40,9 @@ BAD_SYSTEMS = (0, 5, 257, 65537, 2**32 - 1)
 # The words of system 1 on the bench of request 2026-03.
 BENCH_WORDS = (16, 240, 240), (15, 128, 128)
 BENCH_WORDS_REFUSED = (0, 128, 128)
+
+# The lamps of request 2026-04 as codes of system 1: the saturated one, whose Cb both rules match, and the duller one.
+LAMPS = (1, 1, 254), (16, 16, 250)
 
 
 def grid():
@@ -163,8 +167,8 @@ def bad_triples(random):
         yield from ((system, triple) for triple in ((100, 100, 100), (0, 0, 0), (300, 65535, 300)))
 
 
-def words_record(encoding, system, codes):
-    answer = rows.words_of_codes(system, encoding, codes)
+def words_record(encode, encoding, system, codes):
+    answer = encode(system, encoding, codes)
     if isinstance(answer, int):
         return pack("<I8H", system, answer, *codes, 0, 0, 0, 0)
     return pack("<I8H", system, 0, *codes, *answer.words, answer.moved)
@@ -180,13 +184,15 @@ def codes_record(system, words):
 def files():
     random = Random(601_709)
     yield "grid", grid()
-    codes = [(s, codes) for s in SYSTEMS for codes in code_triples(s, random)]
-    yield "words", (words_record(PLAIN, *case) for case in codes)
-    yield "trimmed", (words_record(TRIM, *case) for case in codes)
+    lamps = [(1, codes) for codes in LAMPS]
+    codes = lamps + [(s, codes) for s in SYSTEMS for codes in code_triples(s, random)]
+    yield "words", (words_record(rows.words_of_codes, PLAIN, *case) for case in codes)
+    yield "trimmed", (words_record(rows.words_of_codes, TRIM, *case) for case in codes)
+    yield "formerly_trimmed", (words_record(rows.former_words_of_codes, TRIM, *case) for case in codes)
     words = [(s, words) for s in SYSTEMS for words in word_triples(s, random)]
     bench = [(1, words) for words in BENCH_WORDS]
     yield "codes", (codes_record(*case) for case in bench + words)
-    yield "words_refused", (words_record(PLAIN, *case) for case in bad_triples(random))
+    yield "words_refused", (words_record(rows.words_of_codes, PLAIN, *case) for case in bad_triples(random))
     yield "codes_refused", (codes_record(*case) for case in ((1, BENCH_WORDS_REFUSED), *bad_triples(random)))
 
 

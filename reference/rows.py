@@ -1,15 +1,18 @@
 """Document 01's triples and row blocks in exact arithmetic: whole numbers and fractions only, and nothing shared with the crates.
 
 One function for each sentence. A call that is refused answers the refusal's number in place of its result.
-Which codes and words are accepted, and the rules on words, are those of request 2026-03.
-Running this file checks it against the bench values of both and the document's rowlist example.
+Which codes and words are accepted, and the rules on words, are those of request 2026-03; the order of the rules is that of
+request 2026-04.
+Running this file checks it against their bench values and the document's rowlist example.
 """
 
 from fractions import Fraction
+from itertools import product
 from struct import pack, unpack_from
 from typing import NamedTuple
 
 from exact import INT, SYSTEMS, nominal_codes, video_data
+from pseudorandom import Random
 
 # 'What the caller hears'
 
@@ -87,7 +90,16 @@ def words_before_rules(system, codes):
 
 
 def word_after_rules(system, encoding, nominal_range, word):
-    """The guard is tried first, then trim if it is chosen; only one of them acts."""
+    """Trim is tried first if it is chosen, then the guard; only one of them acts."""
+    if encoding == TRIM and word not in nominal_range:
+        return nearest_end(nominal_range, word)
+    if word not in video_data(system):
+        return nearest_end(video_data(system), word)
+    return word
+
+
+def word_after_former_rules(system, encoding, nominal_range, word):
+    """The order of request 2026-03, kept to compare: the guard is tried first, then trim if it is chosen."""
     if word not in video_data(system):
         return nearest_end(video_data(system), word)
     if encoding == TRIM and word not in nominal_range:
@@ -95,15 +107,24 @@ def word_after_rules(system, encoding, nominal_range, word):
     return word
 
 
-def words_of_codes(system, encoding, codes):
+def words_after(rules, system, encoding, codes):
     if system not in SYSTEMS:
         return REFUSED_SYSTEM
     if not are_video_data(system, codes):
         return REFUSED_CODE
     before = words_before_rules(system, codes)
     ranges = nominal_words(system)
-    words = tuple(word_after_rules(system, encoding, *both) for both in zip(ranges, before, strict=True))
+    words = tuple(rules(system, encoding, *both) for both in zip(ranges, before, strict=True))
     return Limited(words, sum(word != given for word, given in zip(words, before, strict=True)))
+
+
+def words_of_codes(system, encoding, codes):
+    return words_after(word_after_rules, system, encoding, codes)
+
+
+def former_words_of_codes(system, encoding, codes):
+    """The answers before request 2026-04."""
+    return words_after(word_after_former_rules, system, encoding, codes)
 
 
 def code_values(system, words):
@@ -211,26 +232,72 @@ def check_triples():
 
 
 def check_rules():
-    """Triples on which the rules act, worked out by hand: the words before, in plain encoding and in trim encoding."""
+    """Triples on which the rules act, worked out by hand: the words before, in plain, in trim and in the former trim encoding."""
     cases = (
-        # Cb is 128 + 253·224/438, above 256s: the guard acts, so trim does not.
-        (1, (1, 1, 254), (19, 257, 116), ((19, 254, 116), 1), ((19, 254, 116), 1)),
+        # Cb is 128 + 253·224/438, above 256s: both rules match it.
+        (1, (1, 1, 254), (19, 257, 116), ((19, 254, 116), 1), ((19, 240, 116), 1), ((19, 254, 116), 1)),
         # Cb is 128 − 253·224/438, below 0; Y' is 235.7334.
-        (1, (254, 254, 1), (236, -1, 140), ((236, 1, 140), 1), ((235, 1, 140), 2)),
-        # Cb is 128 + 234·224/438, between nominal and the end of video data.
-        (1, (16, 16, 250), (33, 248, 117), ((33, 248, 117), 0), ((33, 240, 117), 1)),
+        (1, (254, 254, 1), (236, -1, 140), ((236, 1, 140), 1), ((235, 16, 140), 2), ((235, 1, 140), 2)),
+        # Cb is 128 + 234·224/438, between nominal and the end of video data: trim alone matches it.
+        (1, (16, 16, 250), (33, 248, 117), ((33, 248, 117), 0), ((33, 240, 117), 1), ((33, 240, 117), 1)),
         # The same distance down: 128 − 234·224/438.
-        (1, (250, 250, 16), (233, 8, 139), ((233, 8, 139), 0), ((233, 16, 139), 1)),
+        (1, (250, 250, 16), (233, 8, 139), ((233, 8, 139), 0), ((233, 16, 139), 1), ((233, 16, 139), 1)),
         # Cr is 512 + 1015·224/438 and 512 − 1015·224/438 beside the ends 4 and 1019.
-        (3, (1019, 4, 4), (271, 367, 1031), ((271, 367, 1019), 1), ((271, 367, 1019), 1)),
-        (3, (4, 1019, 1019), (752, 657, -7), ((752, 657, 4), 1), ((752, 657, 4), 1)),
+        (3, (1019, 4, 4), (271, 367, 1031), ((271, 367, 1019), 1), ((271, 367, 960), 1), ((271, 367, 1019), 1)),
+        (3, (4, 1019, 1019), (752, 657, -7), ((752, 657, 4), 1), ((752, 657, 64), 1), ((752, 657, 4), 1)),
     )
-    for system, codes, before, plain, trim in cases:
+    for system, codes, before, plain, trim, former_trim in cases:
         assert words_before_rules(system, codes) == before
         assert words_of_codes(system, PLAIN, codes) == plain
         assert words_of_codes(system, TRIM, codes) == trim
+        assert former_words_of_codes(system, TRIM, codes) == former_trim
     for codes in ((0, 128, 128), (128, 255, 128), (128, 128, 255)):
         assert words_of_codes(1, PLAIN, codes) == words_of_codes(1, TRIM, codes) == REFUSED_CODE
+        assert former_words_of_codes(1, TRIM, codes) == REFUSED_CODE
+
+
+COMPARED = 400
+
+
+def compared_triples(system, random):
+    """The corners of video data, and pseudorandom triples: of all of it, and of codes close to its ends, with words beyond it."""
+    codes = video_data(system)
+    close = (*codes[: len(codes) // 16], *codes[-(len(codes) // 16) :])
+    yield from product((codes[0], codes[-1]), repeat=3)
+    for of in (codes, close):
+        yield from (tuple(random.of(of) for _ in range(3)) for _ in range(COMPARED))
+
+
+def former_and_present_difference(system, before, former):
+    """In trim encoding, 'a colour word above the video range becomes 240s instead of 255s−1 and one below becomes 16s instead of
+    s'."""
+    s = SYSTEMS[system].scale
+    if before > 255 * s - 1:
+        return 255 * s - 1, 240 * s
+    if before < s:
+        return s, 16 * s
+    return former, former
+
+
+def check_change(system, codes):
+    # 'Plain encoding and the count of moved words keep their answers.'
+    assert words_of_codes(system, PLAIN, codes) == former_words_of_codes(system, PLAIN, codes)
+    present, former = words_of_codes(system, TRIM, codes), former_words_of_codes(system, TRIM, codes)
+    assert present.moved == former.moved
+    before = words_before_rules(system, codes)
+    # Y' is a mean of codes of video data, so none is beyond it.
+    assert before[0] in video_data(system) and present.words[0] == former.words[0]
+    for i in (1, 2):
+        both = former.words[i], present.words[i]
+        assert both == former_and_present_difference(system, before[i], former.words[i])
+
+
+def check_changes():
+    """Request 2026-04 changes what it says and nothing else."""
+    random = Random(2026_04)
+    for system in SYSTEMS:
+        for codes in compared_triples(system, random):
+            check_change(system, codes)
 
 
 def check_greys():
@@ -258,6 +325,7 @@ def check_blocks():
 def check():
     check_triples()
     check_rules()
+    check_changes()
     check_greys()
     check_blocks()
 

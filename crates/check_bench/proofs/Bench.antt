@@ -1,4 +1,4 @@
--- The starred bench values of document 01, with those of request 2026-03 in their places and two lamps on which its rules act, shown of
+-- The starred bench values of document 01, with those of request 2026-03 in their places and the two lamps of request 2026-04, shown of
 -- the definitions: one table, one theorem.
 -- Assumes nothing.
 use mathlib.Core.Path.{_≡_, refl}
@@ -65,7 +65,7 @@ table =
     ∷ row (words 1 16 240 240) (188 ∷ 1 ∷ 219 ∷ 1 ∷ [])
     ∷ row (words 1 15 128 128) (15 ∷ 15 ∷ 15 ∷ 0 ∷ [])
     ∷ record { given = words 1 0 128 128; result = refused 6 }
-    ∷ row (codes 1 Plain 1 1 254) (19 ∷ 254 ∷ 116 ∷ 1 ∷ []) ∷ row (codes 1 Trim 1 1 254) (19 ∷ 254 ∷ 116 ∷ 1 ∷ [])
+    ∷ row (codes 1 Plain 1 1 254) (19 ∷ 254 ∷ 116 ∷ 1 ∷ []) ∷ row (codes 1 Trim 1 1 254) (19 ∷ 240 ∷ 116 ∷ 1 ∷ [])
     ∷ row (codes 1 Plain 16 16 250) (33 ∷ 248 ∷ 117 ∷ 0 ∷ []) ∷ row (codes 1 Trim 16 16 250) (33 ∷ 240 ∷ 117 ∷ 1 ∷ [])
     ∷ []
 

@@ -1,4 +1,4 @@
-// Codes to words, against the files 'words', 'trimmed' and 'words_refused'.
+// Codes to words, against the files 'words', 'trimmed', 'formerly_trimmed' and 'words_refused'.
 ghost use mathlib.Core.Path.{_≡_};
 ghost use Prim.Native.Nat.{_+_, _≤_};
 ghost use lib.ListN.{length};

@@ -48,7 +48,7 @@ natural-inside n (negsuc a) l h = absurd (subst T l tt)
 beyond-by : (n : Range) (v : ℤ) (l h : Bool) → ltZ v (pos (n .low)) ≡ l → ltZ (pos (n .high)) v ≡ h → record { total = elim l [ true ↦ 1 | false ↦ elim h [ true ↦ 1 | false ↦ 0 ] ] } ≡ beyond n v
 beyond-by n v l h p q = sym (λ i. record { total = elim (p i) [ true ↦ 1 | false ↦ elim (q i) [ true ↦ 1 | false ↦ 0 ] ] })
 
-not-both : (n : Range) (v : ℤ) → n .low ≤ n .high → ltZ v (pos (n .low)) ≡ true → ltZ (pos (n .high)) v ≡ true → ⊥
+pub not-both : (n : Range) (v : ℤ) → n .low ≤ n .high → ltZ v (pos (n .low)) ≡ true → ltZ (pos (n .high)) v ≡ true → ⊥
 not-both n (pos a) o l h = omega (arith, ltb-true a (n .low) l, ltb-true (n .high) a h)
 not-both n (negsuc a) o l h = subst T (sym h) tt
 

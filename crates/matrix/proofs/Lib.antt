@@ -8,5 +8,6 @@ pub mod Fractions
 pub mod Nominal
 pub mod Tested
 pub mod Rules
+pub mod Order
 pub mod Return
 pub mod ColourDifference

@@ -23,7 +23,7 @@ use Rattle.matrix.specs.Inner.{CodesIn, NominalCodes, nominalAt, videoAt
 use Rattle.matrix.proofs.Fractions.{luma-rounds, difference-rounds, primary-rounds, green-rounds}
 use Rattle.matrix.proofs.Nominal.{divisors, Word, WordsOf, words-of, words-are}
 use Rattle.matrix.proofs.Clipping.{OffByOne, clipped-nearer, kept-whole}
-use Rattle.matrix.proofs.Rules.{rule-keeps, unmoved}
+use Rattle.matrix.proofs.Rules.{luma-inside, difference-inside, rule-keeps, unmoved}
 
 -- ---- within one
 off : {p n d : ℕ} {v : ℤ} (k : ℕ) (r : Rounds p n d v) → r .up ≤ k + 1 + r .down → k + r .down ≤ r .up + 1 → OffByOne v k
@@ -68,11 +68,11 @@ codes-return-within-one x s n c low high i =
     return-within-one x s n c held (words-of x s c i)
 
 -- codes of video data none of whose words was moved, by any encoding
-pub unmoved-return-within-one : (x : Matrix) (s : ℕ) (e : Encoding) (c : Codes) → 0 < s → CodesIn (videoAt s) c →
+pub unmoved-return-within-one : (x : Matrix) (s : ℕ) (e : Encoding) (c : Codes) → CodesIn (videoAt s) c →
     let l = limited e (videoAt s) (nominalAt s) (encodedAt x s c) in
     l .moved ≡ 0 → CodesWithinOne (codesAt x s (videoAt s) (l .words) .codes) c
-unmoved-return-within-one x s e c S i none =
-    let u = unmoved s S e x c none in
+unmoved-return-within-one x s e c i none =
+    let u = unmoved s e x c none in
     rw (u .1) (return-within-one x s (videoAt s) c i (u .0))
 
 -- ---- greys
@@ -118,6 +118,6 @@ pub grey-returns : (x : Matrix) (s d : ℕ) → s ≤ d → d ≤ 255 * s - 1 �
     × (codesAt x s (videoAt s) (greyWords s d) ≡ record { codes = grey d; clips = noClips })
 unfolding limited
 grey-returns x s d l h =
-    let y = rule-keeps Plain (videoAt s) (nominalAt s .luma) d (l, h) in
-    let c = rule-keeps Plain (videoAt s) (nominalAt s .difference) (128 * s) (omega arith, omega arith) in
-    (ap (limited Plain (videoAt s) (nominalAt s)) (grey-encoded x s d) ∙ (λ i. record { words = record { y = y .0 i; cb = c .0 i; cr = c .0 i }; moved = y .1 i + c .1 i + c .1 i }), grey-codes x s (videoAt s) d l h)
+    let y = rule-keeps Plain (videoAt s) (nominalAt s .luma) (luma-inside s) d (l, h) in
+    let c = rule-keeps Plain (videoAt s) (nominalAt s .difference) (difference-inside s) (128 * s) (omega arith, omega arith) in
+    (ap (limited Plain (videoAt s) (nominalAt s)) (grey-encoded x s d) ∙ (λ i. record { words = record { y = y i .word; cb = c i .word; cr = c i .word }; moved = y i .moved + c i .moved + c i .moved }), grey-codes x s (videoAt s) d l h)

@@ -2,7 +2,6 @@
 -- Definitions only.
 use Prim.Native.Nat.{ℕ, _+_, _*_, _-_, _/_, _^_, _≤_, _<_}
 use mathlib.Core.Path.{_≡_}
-use mathlib.Core.Bool.{true, false}
 use mathlib.Core.List.{List, [], _∷_}
 use lib.IntN.{ℤ, pos, negℤ, natAbs, _+ℤ_, _-ℤ_, _*ℤ_}
 use lib.ListN.{getD}
@@ -16,9 +15,7 @@ use Rattle.matrix.specs.declared.Words.{Words}
 use Rattle.matrix.specs.declared.WordRanges.{WordRanges}
 use Rattle.matrix.specs.declared.Unclipped.{Unclipped}
 use Rattle.matrix.specs.declared.Unlimited.{Unlimited}
-use Rattle.matrix.specs.declared.Encoding.{Encoding}
-use Rattle.matrix.specs.declared.Encoding.the-variants.{Plain, Trim}
-use Rattle.matrix.specs.Triples.{redOf, greenOf, blueOf, outside}
+use Rattle.matrix.specs.Triples.{redOf, greenOf, blueOf}
 
 -- the codes R, G and B that a triple holds
 abbrev pub triple : List ℕ → Codes
@@ -71,11 +68,6 @@ pub record WordSized (v : Unlimited) : Type 0 where
   pub y-high : y < 2 ^ 16
   pub cb-high : cb < 2 ^ 16
   pub cr-high : cr < 2 ^ 16
-
--- the range that a word is held to: that of the rule which may act on it
-abbrev pub heldTo : Encoding → Range → Range → ℤ → Range
-heldTo Plain video nominal v = video
-heldTo Trim video nominal v = elim (outside video v) [ true ↦ video | false ↦ nominal ]
 
 -- a row by a triple
 abbrev pub dotted : List ℤ → List ℤ → ℤ

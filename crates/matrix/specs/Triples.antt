@@ -1,4 +1,4 @@
--- Codes to words and back (document 01, 'Triples', and request 2026-03). Inside INT stands the exact rational, here as one ratio.
+-- Codes to words and back (document 01, 'Triples', and requests 2026-03 and 2026-04). Inside INT stands the exact rational, here as one ratio.
 -- Definitions only.
 use Prim.Native.Nat.{ℕ, _+_, _*_, _-_}
 use mathlib.Core.Bool.{Bool, true, false, _&&_, _||_}
@@ -16,6 +16,7 @@ use Rattle.systems.specs.Refusals.{refusal}
 use Rattle.matrix.specs.declared.Words.{Words}
 use Rattle.matrix.specs.declared.WordRanges.{WordRanges}
 use Rattle.matrix.specs.declared.Unlimited.{Unlimited}
+use Rattle.matrix.specs.declared.Ruled.{Ruled}
 use Rattle.matrix.specs.declared.Limited.{Limited}
 use Rattle.matrix.specs.declared.Encoding.{Encoding}
 use Rattle.matrix.specs.declared.Encoding.the-variants.{Plain, Trim}
@@ -72,35 +73,32 @@ outside r v = ltZ v (pos (r .low)) || ltZ (pos (r .high)) v
 abbrev pub clipped : Range → ℤ → ℕ
 clipped r v = elim (ltZ v (pos (r .low))) [ true ↦ r .low | false ↦ elim (ltZ (pos (r .high)) v) [ true ↦ r .high | false ↦ natural v ] ]
 
--- A rule brings a number beyond its range to the range's nearer end. The rules of an encoding, in the order in which they are tried:
--- the guard, by video data; then trim, by nominal, if it is chosen
+-- A rule brings a number beyond its range to the range's nearer end. The rules of an encoding, in the order in which they are tried
+-- (request 2026-04): trim, by nominal, if it is chosen; then the guard, by video data
 abbrev pub rules : Encoding → Range → Range → List Range
 rules Plain video nominal = video ∷ []
-rules Trim video nominal = video ∷ nominal ∷ []
+rules Trim video nominal = nominal ∷ video ∷ []
 
--- the word of a number that INT left: the first rule whose range it is beyond acts on it, and no other
-abbrev pub ruled : List Range → ℤ → ℕ
-ruled [] v = natural v
-ruled (r ∷ rs) v = elim (outside r v) [ true ↦ clipped r v | false ↦ ruled rs v ]
+-- what the rules leave of a number that INT left: the first rule whose range it is beyond acts on it, and no other
+abbrev pub ruled : List Range → ℤ → Ruled
+ruled [] v = record { word = natural v; moved = 0 }
+ruled (r ∷ rs) v = elim (outside r v) [ true ↦ record { word = clipped r v; moved = 1 } | false ↦ ruled rs v ]
 
--- 1 where a rule acts
-abbrev pub moved : List Range → ℤ → ℕ
-moved [] v = 0
-moved (r ∷ rs) v = elim (outside r v) [ true ↦ 1 | false ↦ moved rs v ]
+-- of Y', Cb and Cr, by the rules of Y' and those of Cb and Cr: the words, and how many were moved, 0 to 3
+abbrev pub limitedBy : List Range → List Range → Unlimited → Limited
+limitedBy luma difference v =
+    let y = ruled luma (v .y) in
+    let cb = ruled difference (v .cb) in
+    let cr = ruled difference (v .cr) in
+    record { words = record { y = y .word; cb = cb .word; cr = cr .word }; moved = y .moved + cb .moved + cr .moved }
 
 -- nominal Y', Cb and Cr
 abbrev pub nominalWords : System → WordRanges
 nominalWords y = record { luma = nominal y; difference = nominalDifference y }
 
--- the words that the rules leave of Y', Cb and Cr, and how many were moved, 0 to 3
+-- by the rules of an encoding
 unfoldable pub limited : Encoding → Range → WordRanges → Unlimited → Limited
-limited e video n v =
-    let luma = rules e video (n .luma) in
-    let difference = rules e video (n .difference) in
-    record {
-      words = record { y = ruled luma (v .y); cb = ruled difference (v .cb); cr = ruled difference (v .cr) };
-      moved = moved luma (v .y) + moved difference (v .cb) + moved difference (v .cr);
-    }
+limited e video n = limitedBy (rules e video (n .luma)) (rules e video (n .difference))
 
 -- the words of a code triple in the system that n names, or refusal 1 or 6
 abbrev pub wordsOfCodes : ℕ → Encoding → Codes → Outcome Limited

@@ -1,4 +1,4 @@
-// Codes to words and back (document 01, 'Triples', and request 2026-03).
+// Codes to words and back (document 01, 'Triples', and requests 2026-03 and 2026-04).
 use systems::Codes;
 use systems::Matrix;
 use systems::Named;
@@ -7,12 +7,13 @@ use systems::Refusal;
 use systems::System;
 ghost use mathlib.Core.Path.{_≡_};
 ghost use Prim.Native.Nat.{_+_, _*_, _^_, _≤_, _<_};
+ghost use mathlib.Core.List.{[], _∷_};
 ghost use lib.IntN.{pos, natAbs, _-ℤ_};
 ghost use lib.Signed.{_<ℤ_};
 ghost use Rattle.exact.specs.Signed.{rounded};
 ghost use Rattle.systems.specs.Systems.{matrix, scale, videoData};
-ghost use Rattle.matrix.specs.Triples.{encodedAt, worded, wordsAt, limited, codesAt, wordsOfCodes, codesOfWords, wordsOutcome, codesOutcome, nominalWords, wordsWithin, _plus_, outside, clipped, beyond};
-ghost use Rattle.matrix.specs.Inner.{triple, NominalCodes, TwelveBitCodes, TwelveBitWords, WordSized, heldTo, Small, dotted, encodingRows, colourDifference, decodingRows, unclippedAt, fixed, fromFixed, InOrder};
+ghost use Rattle.matrix.specs.Triples.{encodedAt, worded, wordsAt, limited, codesAt, wordsOfCodes, codesOfWords, wordsOutcome, codesOutcome, nominalWords, wordsWithin, _plus_, outside, clipped, rules, ruled, beyond};
+ghost use Rattle.matrix.specs.Inner.{triple, NominalCodes, TwelveBitCodes, TwelveBitWords, WordSized, Small, dotted, encodingRows, colourDifference, decodingRows, unclippedAt, fixed, fromFixed, InOrder};
 
 // Y', Cb and Cr words of a sample.
 #[repr(C)]
@@ -28,7 +29,7 @@ pub struct WordRanges {
     pub difference: Range,
 }
 
-// The rules that words are held to: the guard alone, or the guard and trim.
+// The rules that words are held to: the guard alone, or trim and then the guard.
 pub enum Encoding {
     Plain,
     Trim,
@@ -39,6 +40,12 @@ pub struct Unlimited {
     pub y: i64,
     pub cb: i64,
     pub cr: i64,
+}
+
+// The word that the rules leave of a number, and whether one of them moved it, 1 or 0.
+pub struct Ruled {
+    pub word: u16,
+    pub moved: u32,
 }
 
 // The words that the rules leave, and how many of them were moved.
@@ -165,19 +172,32 @@ impl Clips {
 }
 
 impl Encoding {
-    // The range that a word is held to. The guard is tried first, and only one rule acts: trim is left the words of video data.
-    fn held_to(self, video: Range, nominal: Range, v: i64) -> Range
-        ensures { λ r. ⌜ r ≡ heldTo self video nominal v ⌝ }
+    // Trim is tried first if it is chosen, then the guard. Only one of them acts.
+    fn ruled(self, video: Range, nominal: Range, v: i64) -> Ruled
+        ensures { λ r. ⌜ (r ≡ ruled (rules self video nominal) v) × (r .moved ≤ 1) ⌝ }
     {
         match self {
-            Encoding::Plain => video,
+            Encoding::Plain => guarded(video, v),
             Encoding::Trim => {
-                if outside(video, v) {
-                    return video;
+                if outside(nominal, v) {
+                    return Ruled {
+                        word: clip(nominal, v),
+                        moved: 1,
+                    };
                 }
-                nominal
+                guarded(video, v)
             }
         }
+    }
+}
+
+// What the guard leaves of a number.
+fn guarded(video: Range, v: i64) -> Ruled
+    ensures { λ r. ⌜ r ≡ ruled (video ∷ []) v ⌝ }
+{
+    Ruled {
+        word: clip(video, v),
+        moved: outside(video, v) as u32,
     }
 }
 
@@ -187,17 +207,16 @@ fn limited_in(y: System, encoding: Encoding, v: Unlimited) -> Limited
 {
     let video = y.video_data();
     let n = WordRanges::nominal(y);
-    let luma = encoding.held_to(video, n.luma, v.y);
-    let blue = encoding.held_to(video, n.difference, v.cb);
-    let red = encoding.held_to(video, n.difference, v.cr);
-    let words = Words {
-        y: clip(luma, v.y),
-        cb: clip(blue, v.cb),
-        cr: clip(red, v.cr),
-    };
+    let luma = encoding.ruled(video, n.luma, v.y);
+    let blue = encoding.ruled(video, n.difference, v.cb);
+    let red = encoding.ruled(video, n.difference, v.cr);
     Limited {
-        words,
-        moved: outside(luma, v.y) as u32 + outside(blue, v.cb) as u32 + outside(red, v.cr) as u32,
+        words: Words {
+            y: luma.word,
+            cb: blue.word,
+            cr: red.word,
+        },
+        moved: luma.moved + blue.moved + red.moved,
     }
 }
 

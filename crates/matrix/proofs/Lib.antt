@@ -8,6 +8,7 @@ pub mod Fractions
 pub mod Nominal
 pub mod Tested
 pub mod Rules
+pub mod Claims
 pub mod Order
 pub mod Return
 pub mod ColourDifference

@@ -1,6 +1,6 @@
--- What trim before the guard changes (request 2026-04). The rules as they were are kept here, beside those of the product.
+-- Trim before the guard changes what `Claims.antt` says, and nothing else.
 -- Assumes nothing.
-use mathlib.Core.Path.{_≡_, refl, sym, ap, _∙_}
+use mathlib.Core.Path.{_≡_, refl, sym, _∙_}
 use mathlib.Core.Bool.{Bool, true, false, _||_, false≢true}
 use mathlib.Core.List.{List, [], _∷_}
 use Prim.Native.Nat.{ℕ, _+_, _*_, _-_, _≤_}
@@ -9,67 +9,24 @@ use lib.IntN.{ℤ, pos, negsuc}
 use lib.Signed.{ltZ}
 use borrow.Author.Tests.{ltb-true, lt-ltb}
 use Rattle.exact.specs.Signed.{rounded}
-use Rattle.exact.specs.Outcome.{Outcome, accepted, refused, _and-then_, require}
+use Rattle.exact.specs.Outcome.{Outcome, accepted, refused}
 use Rattle.systems.specs.declared.Codes.{Codes}
 use Rattle.systems.specs.declared.Matrix.{Matrix}
 use Rattle.systems.specs.declared.Matrix.the-variants.{Bt709, Bt2020}
 use Rattle.systems.specs.declared.Range.{Range}
 use Rattle.systems.specs.declared.System.{System}
 use Rattle.systems.specs.Systems.{matrix, scale, nominal, nominalDifference, videoData, allWithin, named}
-use Rattle.matrix.specs.declared.Encoding.{Encoding}
-use Rattle.matrix.specs.declared.Encoding.the-variants.{Plain, Trim}
+use Rattle.matrix.specs.declared.Encoding.the-variants.{Trim}
 use Rattle.matrix.specs.declared.Limited.{Limited}
 use Rattle.matrix.specs.declared.Ruled.{Ruled}
-use Rattle.matrix.specs.declared.Unlimited.{Unlimited}
 use Rattle.matrix.specs.Triples.{weighted, luma, outside, clipped, rules, ruled, limitedBy, limited, nominalWords, encodedAt, wordsOfCodes}
 use Rattle.matrix.specs.Inner.{CodesIn, nominalAt, videoAt}
+use Rattle.matrix.proofs.Claims.{formerRules, formerly, Colour, Change, Trimmed, Alike, TheseChange}
 use Rattle.matrix.proofs.Clipping.{clipped-by, not-both}
 use Rattle.matrix.proofs.Fractions.{luma-rounds}
 use Rattle.matrix.proofs.Nominal.{Word, word}
 use Rattle.matrix.proofs.Rules.{Inside, holding, rule-acts, next-rule, luma-inside, difference-inside}
 use Rattle.matrix.proofs.Tested.{codes-in}
-
--- the rules of an encoding in the order in which they were tried: the guard, then trim if it is chosen
-abbrev pub formerRules : Encoding → Range → Range → List Range
-formerRules Plain video nominal = video ∷ []
-formerRules Trim video nominal = video ∷ nominal ∷ []
-
--- the words of a code triple as they were
-abbrev pub formerly : ℕ → Encoding → Codes → Outcome Limited
-formerly n e c =
-    named n and-then λ (y : System).
-    require (allWithin (videoData y) c) 6
-    (accepted (limitedBy (formerRules e (videoData y) (nominal y)) (formerRules e (videoData y) (nominalDifference y)) (encodedAt (matrix y) (scale y) c)))
-
--- Cb or Cr of trim encoding at the scale s, what it was and what it is now, where INT left v
-pub record Colour (s : ℕ) (v : ℤ) (was now : ℕ) : Type 0 where
-  pub above : ltZ (pos (255 * s - 1)) v ≡ true → (was ≡ 255 * s - 1) × (now ≡ 240 * s)
-  pub below : ltZ v (pos s) ≡ true → (was ≡ s) × (now ≡ 16 * s)
-  pub other : outside (videoAt s) v ≡ false → now ≡ was
-
--- an answer of trim encoding
-pub record Change (s : ℕ) (v : Unlimited) (was now : Limited) : Type 0 where
-  pub y : now .words .y ≡ was .words .y
-  pub cb : Colour s (v .cb) (was .words .cb) (now .words .cb)
-  pub cr : Colour s (v .cr) (was .words .cr) (now .words .cr)
-  pub moved : now .moved ≡ was .moved
-
-pub record Trimmed (n : ℕ) (c : Codes) (was now : Limited) : Type 0 where
-  pub system : System
-  pub of : named n ≡ accepted system
-  pub change : Change (scale system) (encodedAt (matrix system) (scale system) c) was now
-
--- two answers that are refused with the same number, or accepted and related by R
-abbrev pub Alike : {A : Type 0} → (A → A → Type 0) → Outcome A → Outcome A → Type 0
-Alike R (accepted was) (accepted now) = R was now
-Alike R (refused was) (refused now) = now ≡ was
-Alike R (accepted was) (refused now) = ⊥
-Alike R (refused was) (accepted now) = ⊥
-
--- the answers for a code triple in the system that n names, as they were and as they are
-pub record TheseChange (n : ℕ) (c : Codes) : Type 0 where
-  pub plain : wordsOfCodes n Plain c ≡ formerly n Plain c
-  pub trim : Alike (Trimmed n c) (formerly n Trim c) (wordsOfCodes n Trim c)
 
 -- ---- one number, by any two ranges of which the one lies in the other
 
@@ -119,9 +76,9 @@ module _ (video n : Range) (inside : Inside n video) (v : ℤ) where
   moved-stays = go (ltZ v (pos (video .low))) (ltZ (pos (video .high)) v) refl refl
     where
       go : (l h : Bool) → ltZ v (pos (video .low)) ≡ l → ltZ (pos (video .high)) v ≡ h → now .moved ≡ was .moved
-      go true h p q = let c = below-changes p in ap (λ (r : Ruled). r .moved) (c .1) ∙ sym (ap (λ (r : Ruled). r .moved) (c .0))
-      go false true p q = let c = above-changes q in ap (λ (r : Ruled). r .moved) (c .1) ∙ sym (ap (λ (r : Ruled). r .moved) (c .0))
-      go false false p q = ap (λ (r : Ruled). r .moved) (other-stays (λ i. p i || q i))
+      go true h p q = let c = below-changes p in (λ i. c .1 i .moved) ∙ sym (λ i. c .0 i .moved)
+      go false true p q = let c = above-changes q in (λ i. c .1 i .moved) ∙ sym (λ i. c .0 i .moved)
+      go false false p q = let c = other-stays (λ i. p i || q i) in λ i. c i .moved
 
 -- ---- Y', Cb and Cr
 
@@ -140,9 +97,9 @@ colour s v =
     let inside = difference-inside s in
     let n = nominalAt s .difference in
     record {
-      above = λ h. let c = above-changes (videoAt s) n inside v h in (ap (λ (r : Ruled). r .word) (c .0), ap (λ (r : Ruled). r .word) (c .1));
-      below = λ l. let c = below-changes (videoAt s) n inside v l in (ap (λ (r : Ruled). r .word) (c .0), ap (λ (r : Ruled). r .word) (c .1));
-      other = λ e. ap (λ (r : Ruled). r .word) (other-stays (videoAt s) n inside v e);
+      above = λ h. let c = above-changes (videoAt s) n inside v h in (λ i. c .0 i .word, λ i. c .1 i .word);
+      below = λ l. let c = below-changes (videoAt s) n inside v l in (λ i. c .0 i .word, λ i. c .1 i .word);
+      other = λ l h. let c = other-stays (videoAt s) n inside v (λ i. l i || h i) in λ i. c i .word;
     }
 
 trimmed : (y : System) (c : Codes) → CodesIn (videoData y) c →
@@ -156,7 +113,7 @@ trimmed y c i =
     let luma = other-stays (videoAt s) (nominalAt s .luma) (luma-inside s) (v .y) (luma-video (matrix y) s c i) in
     let cb = moved-stays (videoAt s) (nominalAt s .difference) difference (v .cb) in
     let cr = moved-stays (videoAt s) (nominalAt s .difference) difference (v .cr) in
-    record { y = ap (λ (r : Ruled). r .word) luma; cb = colour s (v .cb); cr = colour s (v .cr); moved = λ i. luma i .moved + cb i + cr i }
+    record { y = λ i. luma i .word; cb = colour s (v .cb); cr = colour s (v .cr); moved = λ i. luma i .moved + cb i + cr i }
 
 -- ---- the answers
 

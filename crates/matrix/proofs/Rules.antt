@@ -38,15 +38,15 @@ abbrev pub Holds : Range → ℕ → Type 0
 Holds r k = (r .low ≤ k) × (k ≤ r .high)
 
 -- a number that is not beyond a range is a natural that the range holds, and none that it holds is beyond it
-pub record Held (r : Range) (v : ℤ) : Type 0 where
+pub record NaturalIn (r : Range) (v : ℤ) : Type 0 where
   pub value : ℕ
   pub is : v ≡ pos value
   pub holds : Holds r value
 
-pub not-beyond : (r : Range) (v : ℤ) → outside r v ≡ false → Held r v
+pub not-beyond : (r : Range) (v : ℤ) → outside r v ≡ false → NaturalIn r v
 not-beyond r (pos k) e = go (ltZ (pos k) (pos (r .low))) (ltZ (pos (r .high)) (pos k)) refl refl e
   where
-    go : (l h : Bool) → ltZ (pos k) (pos (r .low)) ≡ l → ltZ (pos (r .high)) (pos k) ≡ h → l || h ≡ false → Held r (pos k)
+    go : (l h : Bool) → ltZ (pos k) (pos (r .low)) ≡ l → ltZ (pos (r .high)) (pos k) ≡ h → l || h ≡ false → NaturalIn r (pos k)
     go true h p q f = absurd (false≢true (sym f))
     go false true p q f = absurd (false≢true (sym f))
     go false false p q f = record { value = k; is = refl; holds = (ltb-false k (r .low) p, ltb-false (r .high) k q) }
@@ -137,7 +137,7 @@ unmoved-whole e video n inside v none = go (outside r v) refl
     r = rangeOf e video n
 
     go : (t : Bool) → outside r v ≡ t → v ≡ pos (ruled (rules e video n) v .word)
-    go true f = absurd (omega (arith, sym none ∙ ap (λ (l : Ruled). l .moved) (held e video n inside v) ∙ ap boolByte f))
+    go true f = let same = held e video n inside v in absurd (omega (arith, sym none ∙ (λ i. same i .moved) ∙ ap boolByte f))
     go false f =
         let k = not-beyond r v f in
         k .is ∙ ap pos (sym (ap (λ (z : ℤ). ruled (rules e video n) z .word) (k .is) ∙ ap (λ (l : Ruled). l .word) (rule-keeps e video n inside (k .value) (k .holds))))

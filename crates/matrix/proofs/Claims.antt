@@ -1,0 +1,61 @@
+-- What trim before the guard changes (request 2026-04), stated. The rules as they were are kept here, beside those of the product.
+-- Definitions only.
+use mathlib.Core.Path.{_≡_}
+use mathlib.Core.Bool.{true, false}
+use mathlib.Core.List.{List, [], _∷_}
+use Prim.Native.Nat.{ℕ, _*_, _-_}
+use lib.IntN.{ℤ, pos}
+use lib.Signed.{ltZ}
+use Rattle.exact.specs.Outcome.{Outcome, accepted, refused, _and-then_, require}
+use Rattle.systems.specs.declared.Codes.{Codes}
+use Rattle.systems.specs.declared.Range.{Range}
+use Rattle.systems.specs.declared.System.{System}
+use Rattle.systems.specs.Systems.{matrix, scale, nominal, nominalDifference, videoData, allWithin, named}
+use Rattle.matrix.specs.declared.Encoding.{Encoding}
+use Rattle.matrix.specs.declared.Encoding.the-variants.{Plain, Trim}
+use Rattle.matrix.specs.declared.Limited.{Limited}
+use Rattle.matrix.specs.declared.Unlimited.{Unlimited}
+use Rattle.matrix.specs.Triples.{limitedBy, encodedAt, wordsOfCodes}
+
+-- the rules of an encoding in the order in which they were tried: the guard, then trim if it is chosen
+abbrev pub formerRules : Encoding → Range → Range → List Range
+formerRules Plain video nominal = video ∷ []
+formerRules Trim video nominal = video ∷ nominal ∷ []
+
+-- the words of a code triple as they were
+abbrev pub formerly : ℕ → Encoding → Codes → Outcome Limited
+formerly n e c =
+    named n and-then λ (y : System).
+    require (allWithin (videoData y) c) 6
+    (accepted (limitedBy (formerRules e (videoData y) (nominal y)) (formerRules e (videoData y) (nominalDifference y)) (encodedAt (matrix y) (scale y) c)))
+
+-- Cb or Cr of trim encoding at the scale s, what it was and what it is now, where INT left v
+pub record Colour (s : ℕ) (v : ℤ) (was now : ℕ) : Type 0 where
+  pub above : ltZ (pos (255 * s - 1)) v ≡ true → (was ≡ 255 * s - 1) × (now ≡ 240 * s)
+  pub below : ltZ v (pos s) ≡ true → (was ≡ s) × (now ≡ 16 * s)
+  pub other : ltZ v (pos s) ≡ false → ltZ (pos (255 * s - 1)) v ≡ false → now ≡ was
+
+-- an answer of trim encoding as it was and as it is, where INT left v; Y' and the count stay
+pub record Change (s : ℕ) (v : Unlimited) (was now : Limited) : Type 0 where
+  pub y : now .words .y ≡ was .words .y
+  pub cb : Colour s (v .cb) (was .words .cb) (now .words .cb)
+  pub cr : Colour s (v .cr) (was .words .cr) (now .words .cr)
+  pub moved : now .moved ≡ was .moved
+
+-- in the system that n names
+pub record Trimmed (n : ℕ) (c : Codes) (was now : Limited) : Type 0 where
+  pub system : System
+  pub of : named n ≡ accepted system
+  pub change : Change (scale system) (encodedAt (matrix system) (scale system) c) was now
+
+-- two answers that are refused with the same number, or accepted and related by R
+abbrev pub Alike : {A : Type 0} → (A → A → Type 0) → Outcome A → Outcome A → Type 0
+Alike R (accepted was) (accepted now) = R was now
+Alike R (refused was) (refused now) = now ≡ was
+Alike R (accepted was) (refused now) = ⊥
+Alike R (refused was) (accepted now) = ⊥
+
+-- the answers for a code triple in the system that n names, as they were and as they are
+pub record TheseChange (n : ℕ) (c : Codes) : Type 0 where
+  pub plain : wordsOfCodes n Plain c ≡ formerly n Plain c
+  pub trim : Alike (Trimmed n c) (formerly n Trim c) (wordsOfCodes n Trim c)

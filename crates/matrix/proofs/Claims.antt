@@ -1,4 +1,4 @@
--- What trim before the guard changes (request 2026-04), stated. The rules as they were are kept here, beside those of the product.
+-- What the rules leave, and what trim before the guard changes (request 2026-04), stated.
 -- Definitions only.
 use mathlib.Core.Path.{_≡_}
 use mathlib.Core.Bool.{true, false}
@@ -15,7 +15,22 @@ use Rattle.matrix.specs.declared.Encoding.{Encoding}
 use Rattle.matrix.specs.declared.Encoding.the-variants.{Plain, Trim}
 use Rattle.matrix.specs.declared.Limited.{Limited}
 use Rattle.matrix.specs.declared.Unlimited.{Unlimited}
+use Rattle.matrix.specs.declared.WordRanges.{WordRanges}
 use Rattle.matrix.specs.Triples.{limitedBy, encodedAt, wordsOfCodes}
+use Rattle.matrix.specs.Inner.{nominalAt, videoAt}
+
+-- ---- what the rules leave
+
+-- the range that an encoding holds a word to
+abbrev pub rangeOf : Encoding → Range → Range → Range
+rangeOf Plain video nominal = video
+rangeOf Trim video nominal = nominal
+
+-- at the scale s: in trim encoding every word is nominal, in plain encoding every word is video data
+abbrev pub rangesOf : Encoding → ℕ → WordRanges
+rangesOf e s = record { luma = rangeOf e (videoAt s) (nominalAt s .luma); difference = rangeOf e (videoAt s) (nominalAt s .difference) }
+
+-- ---- what trim before the guard changes: the rules as they were are kept here, beside those of the product
 
 -- the rules of an encoding in the order in which they were tried: the guard, then trim if it is chosen
 abbrev pub formerRules : Encoding → Range → Range → List Range

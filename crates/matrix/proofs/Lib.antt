@@ -7,8 +7,8 @@ pub mod DecodingRows
 pub mod Fractions
 pub mod Nominal
 pub mod Tested
-pub mod Rules
 pub mod Claims
+pub mod Rules
 pub mod Order
 pub mod Return
 pub mod ColourDifference

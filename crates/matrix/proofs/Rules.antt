@@ -24,6 +24,7 @@ use Rattle.matrix.specs.declared.Unlimited.{Unlimited}
 use Rattle.matrix.specs.declared.WordRanges.{WordRanges}
 use Rattle.matrix.specs.Triples.{natural, outside, clipped, rules, ruled, nominalWords, limited, encodedAt, wordsAt}
 use Rattle.matrix.specs.Inner.{NominalCodes, WordsIn, nominalAt, videoAt}
+use Rattle.matrix.proofs.Claims.{rangeOf, rangesOf}
 use Rattle.matrix.proofs.Clipping.{clipped-by, clipped-within}
 use Rattle.matrix.proofs.Fractions.{luma-rounds, difference-rounds}
 use Rattle.matrix.proofs.Nominal.{Word, word, divisors, untimed, WordsOf, words-of, words-are}
@@ -81,11 +82,6 @@ by-first r rs v idle = go (ltZ v (pos (r .low))) (ltZ (pos (r .high)) v) refl re
 
 pub alone : (r : Range) (v : ℤ) → ruled (r ∷ []) v ≡ leftBy r v
 alone r v = by-first r [] v (λ (e : outside r v ≡ false). refl)
-
--- the range that an encoding holds words to
-abbrev pub rangeOf : Encoding → Range → Range → Range
-rangeOf Plain video n = video
-rangeOf Trim video n = n
 
 -- a number that is not beyond a range is not beyond one around it
 around : {n video : Range} → Inside n video → (v : ℤ) → outside n v ≡ false → outside video v ≡ false
@@ -147,10 +143,6 @@ word-of : {p n d low high : ℕ} {z : ℤ} (r : Rounds p n d z) (k : ℕ) → z 
 word-of r k e l h = let u : r .up ≡ k + r .down = sub-is (r .up) (r .down) k (sym (r .is) ∙ e) in word r (omega arith) (omega arith)
 
 -- ---- the three words, at a scale
-
--- the ranges that an encoding holds the words to: nominal by trim, else video data
-abbrev pub rangesOf : Encoding → ℕ → WordRanges
-rangesOf e s = record { luma = rangeOf e (videoAt s) (nominalAt s .luma); difference = rangeOf e (videoAt s) (nominalAt s .difference) }
 
 pub luma-inside : (s : ℕ) → Inside (nominalAt s .luma) (videoAt s)
 luma-inside s = (omega arith, omega arith, omega arith)

@@ -27,7 +27,7 @@ fn check_words() {
     words::compare(Encoding::Plain, &buf[..n]).print(b"words");
     let m = check_records::read(b"trimmed", &mut buf);
     words::compare(Encoding::Trim, &buf[..m]).print(b"words trimmed");
-    // With the guard before trim a colour word beyond video data was another.
+    // The answers with the guard before trim: those with a colour word beyond video data differ.
     let k = check_records::read(b"formerly_trimmed", &mut buf);
     words::compare(Encoding::Trim, &buf[..k]).print(b"words formerly trimmed");
 }

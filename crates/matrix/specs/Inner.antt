@@ -1,4 +1,5 @@
--- Inner definitions: each matrix as three rows of three whole numbers, and fixed point. Nothing here has to be believed.
+-- Inner definitions: each matrix as three rows of three whole numbers, and fixed point. Nothing here has to be believed but, for the
+-- claims on words of video data, `CodesIn`, `WordsIn`, `nominalAt` and `videoAt`.
 -- Definitions only.
 use Prim.Native.Nat.{ℕ, _+_, _*_, _-_, _/_, _^_, _≤_, _<_}
 use mathlib.Core.Path.{_≡_}

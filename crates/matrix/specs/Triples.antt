@@ -1,4 +1,5 @@
--- Codes to words and back (document 01, 'Triples', and requests 2026-03 and 2026-04). Inside INT stands the exact rational, here as one ratio.
+-- Codes to words and back (document 01, 'Triples', and requests 2026-03 and 2026-04). Inside INT stands the exact rational, here as
+-- one ratio.
 -- Definitions only.
 use Prim.Native.Nat.{ℕ, _+_, _*_, _-_}
 use mathlib.Core.Bool.{Bool, true, false, _&&_, _||_}
@@ -73,6 +74,10 @@ outside r v = ltZ v (pos (r .low)) || ltZ (pos (r .high)) v
 abbrev pub clipped : Range → ℤ → ℕ
 clipped r v = elim (ltZ v (pos (r .low))) [ true ↦ r .low | false ↦ elim (ltZ (pos (r .high)) v) [ true ↦ r .high | false ↦ natural v ] ]
 
+-- nominal Y', Cb and Cr
+abbrev pub nominalWords : System → WordRanges
+nominalWords y = record { luma = nominal y; difference = nominalDifference y }
+
 -- A rule brings a number beyond its range to the range's nearer end. The rules of an encoding, in the order in which they are tried
 -- (request 2026-04): trim, by nominal, if it is chosen; then the guard, by video data
 abbrev pub rules : Encoding → Range → Range → List Range
@@ -84,7 +89,7 @@ abbrev pub ruled : List Range → ℤ → Ruled
 ruled [] v = record { word = natural v; moved = 0 }
 ruled (r ∷ rs) v = elim (outside r v) [ true ↦ record { word = clipped r v; moved = 1 } | false ↦ ruled rs v ]
 
--- of Y', Cb and Cr, by the rules of Y' and those of Cb and Cr: the words, and how many were moved, 0 to 3
+-- what the rules of Y' and those of Cb and Cr leave of the three: the words, and how many were moved, 0 to 3
 abbrev pub limitedBy : List Range → List Range → Unlimited → Limited
 limitedBy luma difference v =
     let y = ruled luma (v .y) in
@@ -92,11 +97,7 @@ limitedBy luma difference v =
     let cr = ruled difference (v .cr) in
     record { words = record { y = y .word; cb = cb .word; cr = cr .word }; moved = y .moved + cb .moved + cr .moved }
 
--- nominal Y', Cb and Cr
-abbrev pub nominalWords : System → WordRanges
-nominalWords y = record { luma = nominal y; difference = nominalDifference y }
-
--- by the rules of an encoding
+-- what the rules of an encoding leave of them
 unfoldable pub limited : Encoding → Range → WordRanges → Unlimited → Limited
 limited e video n = limitedBy (rules e video (n .luma)) (rules e video (n .difference))
 

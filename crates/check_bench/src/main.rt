@@ -1,4 +1,4 @@
-// The bench values of document 01, with those of request 2026-03 in their places and two lamps on which its rules act, run through
+// The bench values of document 01, with those of request 2026-03 in their places and the two lamps of request 2026-04, run through
 // the public calls, a line each. proofs/Bench.antt has the starred ones as a theorem.
 use libc::STDOUT_FILENO;
 use light::CodeSpan;

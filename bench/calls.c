@@ -86,6 +86,22 @@ static void codes_of_words(const struct rows *rows)
     sink = sum;
 }
 
+static void level_of_code(const struct rows *rows)
+{
+    uint32_t sum = 0;
+    for (size_t i = 0; i < ARGUMENTS; i++)
+        sum += ferghulta_level_of_code(rows->system->number, rows->codes[0][i]).level.remainder;
+    sink = sum;
+}
+
+static void level_of_difference(const struct rows *rows)
+{
+    uint32_t sum = 0;
+    for (size_t i = 0; i < ARGUMENTS; i++)
+        sum += ferghulta_level_of_difference(rows->system->number, rows->words[1][i]).level.remainder;
+    sink = sum;
+}
+
 static void row_of_one(const struct rows *rows)
 {
     our_rows((struct rows *)rows).run((void *)rows);
@@ -106,7 +122,8 @@ void time_calls(const struct system *system, int rounds, struct call calls[CALLS
         {"code_of_light", code_of_light},        {"span_of_code", span_of_code},
         {"codes_of_signals", codes_of_signals},  {"signals_of_codes", signals_of_codes},
         {"words_of_codes", words_of_codes},      {"trimmed_words_of_codes", trimmed_words_of_codes},
-        {"codes_of_words", codes_of_words},
+        {"codes_of_words", codes_of_words},      {"level_of_code", level_of_code},
+        {"level_of_difference", level_of_difference},
     };
     struct rows *rows = rows_new(system, 1, ARGUMENTS);
     for (int c = 0; c < CALLS; c++)

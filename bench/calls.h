@@ -4,7 +4,7 @@
 
 #include "rows.h"
 
-enum { CALLS = 9 };
+enum { CALLS = 11 };
 
 struct call {
     const char *name;

@@ -1,5 +1,5 @@
 //! The answers of include/ferghulta.h, and the exact outcomes in that form: a refusal's other numbers are 0.
-use crate::exact::{system, Opened, Outcome, Picture as State, Row, MOST_ROWS, MOST_SAMPLES};
+use crate::exact::{system, Level, Opened, Outcome, Picture as State, Row, MOST_ROWS, MOST_SAMPLES};
 
 #[repr(C)]
 #[derive(Debug, PartialEq)]
@@ -48,6 +48,14 @@ pub struct CountedAnswer {
     pub refusal: u32,
     pub count: u32,
     pub triple: [u16; 3],
+}
+
+#[repr(C)]
+#[derive(Debug, PartialEq)]
+pub struct LevelAnswer {
+    pub refusal: u32,
+    pub millivolts: i32,
+    pub remainder: u32,
 }
 
 #[repr(C)]
@@ -155,6 +163,17 @@ impl SignalsAnswer {
     /// The refusal and the bits, by which a zero's sign shows.
     pub fn bits(&self) -> (u32, [u32; 3]) {
         (self.refusal, self.signals.into())
+    }
+}
+
+impl From<Outcome<Level>> for LevelAnswer {
+    fn from(outcome: Outcome<Level>) -> LevelAnswer {
+        let (refusal, (millivolts, remainder)) = parts(outcome);
+        LevelAnswer {
+            refusal,
+            millivolts,
+            remainder,
+        }
     }
 }
 

@@ -1,4 +1,4 @@
-//! The bench values of document 01 and of requests 2026-03 and 2026-04, of the exact program itself.
+//! The bench values of document 01 and of requests 2026-03 to 2026-05, of the exact program itself.
 use crate::exact::*;
 
 pub fn check() {
@@ -7,6 +7,7 @@ pub fn check() {
     triples();
     rules();
     blocks();
+    levels();
 }
 
 fn lights() {
@@ -76,4 +77,19 @@ fn blocks() {
     );
     assert_eq!(row.codes, [235; 3]);
     assert_eq!(block_bytes(MOST_SAMPLES), 46089);
+}
+
+/// 700·(1 − 16) is −10500, and −48·219 is −10512.
+fn levels() {
+    for system in &SYSTEMS {
+        let s = system.scale as u16;
+        let codes = [16, 235].map(|d| level_of_code(system.number, d * s));
+        let differences = [16, 128, 240].map(|c| level_of_difference(system.number, c * s));
+        assert_eq!(codes, [Ok((0, 0)), Ok((700, 0))]);
+        assert_eq!(differences, [Ok((-350, 0)), Ok((0, 0)), Ok((350, 0))]);
+    }
+    assert_eq!(level_of_code(1, 1), Ok((-48, 12)));
+    assert_eq!(level_of_code(1, 0), Err(refusal::CODE));
+    assert_eq!(level_of_difference(1, 255), Err(refusal::CODE));
+    assert_eq!(level_of_difference(0, 0), Err(refusal::SYSTEM));
 }

@@ -628,3 +628,29 @@ pub fn to_progressive(from: &[u8], room: usize) -> Outcome<Vec<u8>> {
     }
     Ok(rows)
 }
+
+// ---- request 2026-05, levels
+
+/// Whole millivolts, and the remainder over 219s or 224s.
+pub type Level = (i32, u32);
+
+/// The remainder, 'never negative', is taken first; without it the level is a whole number of millivolts. Zero and range are
+/// multiples of s.
+fn level(number: u32, code: u16, zero: i128, range: i128) -> Outcome<Level> {
+    let system = system(number)?;
+    require(system.video_data().contains(&code), refusal::CODE)?;
+    let over = 700 * (i128::from(code) - zero * system.scale);
+    let under = range * system.scale;
+    let remainder = over.rem_euclid(under);
+    Ok((((over - remainder) / under) as i32, remainder as u32))
+}
+
+/// 700·(D − 16s)/(219s) for R', G', B', Y'.
+pub fn level_of_code(number: u32, code: u16) -> Outcome<Level> {
+    level(number, code, 16, 219)
+}
+
+/// 700·(C − 128s)/(224s) for Cb, Cr.
+pub fn level_of_difference(number: u32, word: u16) -> Outcome<Level> {
+    level(number, word, 128, 224)
+}

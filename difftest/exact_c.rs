@@ -90,3 +90,13 @@ pub extern "C" fn exact_trimmed_words_of_codes(system: u32, codes: Triple) -> Co
 pub extern "C" fn exact_codes_of_words(system: u32, words: Triple) -> CountedAnswer {
     exact::codes_of_words(system, words.into()).into()
 }
+
+#[no_mangle]
+pub extern "C" fn exact_level_of_code(system: u32, code: u16) -> LevelAnswer {
+    exact::level_of_code(system, code).into()
+}
+
+#[no_mangle]
+pub extern "C" fn exact_level_of_difference(system: u32, word: u16) -> LevelAnswer {
+    exact::level_of_difference(system, word).into()
+}

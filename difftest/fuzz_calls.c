@@ -188,8 +188,19 @@ static void triples(struct list *list)
     agree(CODES_OF_WORDS, "clipped", &decoded.clipped, &exactly_decoded.clipped, sizeof decoded.clipped);
 }
 
+static void levels(struct list *list)
+{
+    uint32_t system = number(list, 6);
+    uint16_t code = code_of_bits(list, system);
+    ferghulta_level_answer of_code = ferghulta_level_of_code(system, code), exactly_of_code = exact_level_of_code(system, code);
+    ferghulta_level_answer of_difference = ferghulta_level_of_difference(system, code),
+                           exactly_of_difference = exact_level_of_difference(system, code);
+    AGREE(LEVEL_OF_CODE, of_code, exactly_of_code, level);
+    AGREE(LEVEL_OF_DIFFERENCE, of_difference, exactly_of_difference, level);
+}
+
 static void (*const calls[])(struct list *) = {
-    open_picture, take_row, take_row, take_row, close_picture, read_row, any_picture, lights_and_codes, signals, triples,
+    open_picture, take_row, take_row, take_row, close_picture, read_row, any_picture, lights_and_codes, signals, triples, levels,
 };
 
 int LLVMFuzzerTestOneInput(const uint8_t *data, size_t size)

@@ -10,6 +10,8 @@ extern "C" {
     pub fn ferghulta_words_of_codes(system: u32, codes: Triple) -> CountedAnswer;
     pub fn ferghulta_trimmed_words_of_codes(system: u32, codes: Triple) -> CountedAnswer;
     pub fn ferghulta_codes_of_words(system: u32, words: Triple) -> CountedAnswer;
+    pub fn ferghulta_level_of_code(system: u32, code: u16) -> LevelAnswer;
+    pub fn ferghulta_level_of_difference(system: u32, word: u16) -> LevelAnswer;
     pub fn ferghulta_new() -> Picture;
     pub fn ferghulta_open(p: Picture, system: u32, width: u32, height: u32) -> PictureAnswer;
     pub fn ferghulta_close(picture: Picture) -> PictureAnswer;
@@ -30,8 +32,8 @@ extern "C" {
     pub fn ferghulta_to_progressive(from: *const u8, length: usize, to: *mut u8, room: usize) -> u32;
 }
 
-/// The same calls with what the x86-64 convention leaves open, filled: the upper half of a register with a u32, the fourth word of
-/// one with a triple, the upper lane of one with the third float. No answer may depend on it.
+/// The same calls with what the x86-64 convention leaves open, filled: the upper half of a register with a u32 or a u16, the fourth
+/// word of one with a triple, the upper lane of one with the third float. No answer may depend on it.
 pub mod filled {
     use crate::answers::*;
 
@@ -46,6 +48,8 @@ pub mod filled {
         pub fn ferghulta_words_of_codes(system: u64, codes: u64) -> CountedAnswer;
         pub fn ferghulta_trimmed_words_of_codes(system: u64, codes: u64) -> CountedAnswer;
         pub fn ferghulta_codes_of_words(system: u64, words: u64) -> CountedAnswer;
+        pub fn ferghulta_level_of_code(system: u64, code: u64) -> LevelAnswer;
+        pub fn ferghulta_level_of_difference(system: u64, word: u64) -> LevelAnswer;
         pub fn ferghulta_open(p: Picture, system: u64, width: u64, height: u64) -> PictureAnswer;
     }
 }

@@ -89,6 +89,7 @@ fn compare(effort: &Effort, seed: u64) -> bool {
         & pictures::rows_of_every_light(effort, random)
         & segments::segments(effort, random)
         & values::trim_before_guard(effort, random)
+        & values::levels(effort, random)
 }
 
 /// The form, and cases and seed where they are given.

@@ -11,6 +11,8 @@ ferghulta_signals_answer right_ferghulta_signals_of_codes(uint32_t, ferghulta_co
 ferghulta_words_answer right_ferghulta_words_of_codes(uint32_t, ferghulta_codes);
 ferghulta_words_answer right_ferghulta_trimmed_words_of_codes(uint32_t, ferghulta_codes);
 ferghulta_decoded_answer right_ferghulta_codes_of_words(uint32_t, ferghulta_words);
+ferghulta_level_answer right_ferghulta_level_of_code(uint32_t, uint16_t);
+ferghulta_level_answer right_ferghulta_level_of_difference(uint32_t, uint16_t);
 ferghulta_block_answer right_ferghulta_read_block(const uint8_t *, size_t, uint16_t *, size_t);
 ferghulta_picture right_ferghulta_new(void);
 ferghulta_picture_answer right_ferghulta_open(ferghulta_picture, uint32_t, uint32_t, uint32_t);
@@ -184,6 +186,55 @@ ferghulta_words_answer ferghulta_trimmed_words_of_codes(uint32_t system, ferghul
     if (mutant(39))
         return right_ferghulta_words_of_codes(system, codes); /* trim left out */
     return spoilt(system, 1, codes, right_ferghulta_trimmed_words_of_codes(system, codes));
+}
+
+/* ---- levels; zero and range are multiples of s */
+
+static ferghulta_level_answer level_by(uint32_t system, int code, int zero, int range, ferghulta_level_answer answer)
+{
+    int over = 700 * (code - zero * scale(system)), under = range * scale(system);
+    int remainder = (over % under + under) % under;
+    if (answer.refusal == 0)
+        answer.level = (ferghulta_level){ (over - remainder) / under, (uint32_t)remainder };
+    return answer;
+}
+
+static ferghulta_level_answer spoilt_level(uint32_t system, int code, int zero, int range, ferghulta_level_answer answer)
+{
+    int over = 700 * (code - zero * scale(system)), under = range * scale(system);
+    if (mutant(46) && answer.refusal == 0)
+        answer.level.millivolts = over / under; /* toward zero */
+    if (mutant(47) && answer.refusal == 0)
+        answer.level.remainder = (uint32_t)abs(over % under); /* that of rounding toward zero, without its sign */
+    if (mutant(48))
+        answer.level.remainder = 0;
+    if (mutant(49) && answer.refusal == 1 && code == 0)
+        answer.refusal = 6; /* the code before the system */
+    return answer;
+}
+
+ferghulta_level_answer ferghulta_level_of_code(uint32_t system, uint16_t code)
+{
+    ferghulta_level_answer answer = right_ferghulta_level_of_code(system, code);
+    if (mutant(50))
+        return level_by(system, code, 16, 224, answer); /* the range of Cb and Cr */
+    if (mutant(51))
+        return level_by(system, code, 128, 219, answer); /* their zero */
+    if (mutant(52) && answer.refusal == 0 && nominal(system, code) != code)
+        return (ferghulta_level_answer){ .refusal = 6 }; /* at nominal */
+    return spoilt_level(system, code, 16, 219, answer);
+}
+
+ferghulta_level_answer ferghulta_level_of_difference(uint32_t system, uint16_t word)
+{
+    ferghulta_level_answer answer = right_ferghulta_level_of_difference(system, word);
+    if (mutant(53))
+        return level_by(system, word, 128, 219, answer); /* the range of Y' */
+    if (mutant(54))
+        return level_by(system, word, 16, 224, answer); /* its zero */
+    if (mutant(55) && answer.refusal == 0 && !is_within(word, 16 * scale(system), 240 * scale(system)))
+        return (ferghulta_level_answer){ .refusal = 6 }; /* at nominal */
+    return spoilt_level(system, word, 128, 224, answer);
 }
 
 /* ---- codes and blocks */

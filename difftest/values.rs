@@ -1,7 +1,7 @@
 //! The calls on single values and triples.
 use crate::answers::*;
 use crate::library::{self, filled};
-use crate::exact::{self, Encoding, System, SYSTEMS};
+use crate::exact::{self, Encoding, Level, Outcome, System, SYSTEMS};
 use crate::pseudorandom::Pseudorandom;
 use crate::tally::Tally;
 use crate::Effort;
@@ -392,6 +392,107 @@ pub fn trim_before_guard(effort: &Effort, random: &mut Pseudorandom) -> bool {
     }
     all_triples(&effort.third(), random, |system, codes| changed(&mut tally, system, codes));
     tally.end()
+}
+
+// ---- levels
+
+/// A call on levels beside the exact program's; zero and range are the request's, in multiples of s.
+struct Levels {
+    name: &'static str,
+    call: unsafe extern "C" fn(u32, u16) -> LevelAnswer,
+    filled: unsafe extern "C" fn(u64, u64) -> LevelAnswer,
+    exact: fn(u32, u16) -> Outcome<Level>,
+    zero: i128,
+    range: i128,
+}
+
+const CODE_LEVELS: Levels = Levels {
+    name: "level_of_code",
+    call: library::ferghulta_level_of_code,
+    filled: filled::ferghulta_level_of_code,
+    exact: exact::level_of_code,
+    zero: 16,
+    range: 219,
+};
+
+const DIFFERENCE_LEVELS: Levels = Levels {
+    name: "level_of_difference",
+    call: library::ferghulta_level_of_difference,
+    filled: filled::ferghulta_level_of_difference,
+    exact: exact::level_of_difference,
+    zero: 128,
+    range: 224,
+};
+
+impl Levels {
+    fn of(&self, system: u32, code: u16) -> LevelAnswer {
+        unsafe { (self.call)(system, code) }
+    }
+
+    /// The same call with the upper halves of the registers filled.
+    fn of_filled(&self, system: u32, code: u16, random: &mut Pseudorandom) -> LevelAnswer {
+        let upper = random.bits() << 32;
+        unsafe { (self.filled)(upper | u64::from(system), upper | u64::from(code)) }
+    }
+
+    fn level(&self, tally: &mut Tally, system: u32, code: u16, random: &mut Pseudorandom) {
+        let got = self.of(system, code);
+        let wanted = LevelAnswer::from((self.exact)(system, code));
+        let agree = got == wanted && got == self.of_filled(system, code, random) && self.makes_up(system, code, &got);
+        tally.count(wanted.refusal, agree, || {
+            format!("system {system} code {code}: {got:?}, wanted {wanted:?}")
+        });
+    }
+
+    /// Whether an accepted answer, multiplied out, is 700·(code − zero), and its remainder is less than a millivolt.
+    fn makes_up(&self, system: u32, code: u16, answer: &LevelAnswer) -> bool {
+        let s = known(system).scale;
+        let (over, under) = (700 * (i128::from(code) - self.zero * s), self.range * s);
+        let (millivolts, remainder) = (i128::from(answer.millivolts), i128::from(answer.remainder));
+        answer.refusal != 0 || over == millivolts * under + remainder && remainder < under
+    }
+
+    /// Every 16-bit number as a code in every system, and with other systems' numbers.
+    fn compare(&self, effort: &Effort, random: &mut Pseudorandom) -> bool {
+        let mut tally = Tally::new(self.name);
+        for system in SYSTEM_NUMBERS {
+            for code in (0..=u16::MAX).step_by(effort.stride) {
+                self.level(&mut tally, system, code, random);
+            }
+        }
+        for _ in 0..effort.cases {
+            self.level(&mut tally, random.bits() as u32, random.bits() as u16, random);
+        }
+        tally.end()
+    }
+
+    /// The next code's level is above: by its millivolts, or by its remainder where these are alike.
+    fn rises(&self, tally: &mut Tally, system: u32, code: u16) {
+        let [level, next] = [code, code + 1].map(|code| self.of(system, code));
+        let below = (level.millivolts, level.remainder) < (next.millivolts, next.remainder);
+        let accepted = level.refusal == 0 && next.refusal == 0;
+        tally.count(0, accepted && below, || {
+            format!("{} system {system} code {code}: {level:?}, next {next:?}", self.name)
+        });
+    }
+}
+
+/// Each code of video data beside the next.
+fn levels_rise(effort: &Effort) -> bool {
+    let mut tally = Tally::new("levels_rise");
+    for levels in [CODE_LEVELS, DIFFERENCE_LEVELS] {
+        for system in &SYSTEMS {
+            let range = system.video_data();
+            for code in (*range.start()..*range.end()).step_by(effort.stride) {
+                levels.rises(&mut tally, system.number, code);
+            }
+        }
+    }
+    tally.end()
+}
+
+pub fn levels(effort: &Effort, random: &mut Pseudorandom) -> bool {
+    CODE_LEVELS.compare(effort, random) & DIFFERENCE_LEVELS.compare(effort, random) & levels_rise(effort)
 }
 
 // ---- what the calling convention leaves open

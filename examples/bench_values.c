@@ -7,6 +7,9 @@
 
 enum { WIDEST = FERGHULTA_MOST_SAMPLES };
 
+/* s of each system. */
+static const uint16_t scales[] = {1, 4, 4, 16};
+
 static unsigned tried, wrong;
 
 static void expect(const char *what, unsigned long got, unsigned long wanted) {
@@ -60,8 +63,13 @@ static void expect_codes(uint32_t system, ferghulta_words words, ferghulta_codes
     expect("B'", answer.codes.b, wanted.b);
 }
 
+static void expect_level(ferghulta_level_answer answer, int32_t millivolts, uint32_t remainder) {
+    expect("level accepted", answer.refusal, 0);
+    expect("millivolts", answer.level.millivolts == millivolts, 1);
+    expect("remainder", answer.level.remainder, remainder);
+}
+
 static void lights(void) {
-    static const uint16_t scales[] = {1, 4, 4, 16};
     for (uint32_t system = 1; system <= 4; system++) {
         expect_light(system, 0, (uint16_t)(16 * scales[system - 1]));
         expect_light(system, 65535, (uint16_t)(235 * scales[system - 1]));
@@ -120,6 +128,22 @@ static void nominal_calls(void) {
     expect("span of 236", ferghulta_span_of_code(1, 236).refusal, FERGHULTA_REFUSED_CODE);
     expect("signal of 15", ferghulta_signals_of_codes(1, below).refusal, FERGHULTA_REFUSED_CODE);
     expect("signal of 236", ferghulta_signals_of_codes(1, above).refusal, FERGHULTA_REFUSED_CODE);
+}
+
+/* Black, white, and the ends and the middle of nominal Cb and Cr in each system; 700 * (1 - 16) is -48 * 219 + 12. */
+static void levels(void) {
+    for (uint32_t system = 1; system <= 4; system++) {
+        const uint16_t s = scales[system - 1];
+        expect_level(ferghulta_level_of_code(system, (uint16_t)(16 * s)), 0, 0);
+        expect_level(ferghulta_level_of_code(system, (uint16_t)(235 * s)), 700, 0);
+        expect_level(ferghulta_level_of_difference(system, (uint16_t)(16 * s)), -350, 0);
+        expect_level(ferghulta_level_of_difference(system, (uint16_t)(128 * s)), 0, 0);
+        expect_level(ferghulta_level_of_difference(system, (uint16_t)(240 * s)), 350, 0);
+    }
+    expect_level(ferghulta_level_of_code(1, 1), -48, 12);
+    expect("level of a timing code", ferghulta_level_of_code(1, 0).refusal, FERGHULTA_REFUSED_CODE);
+    expect("level of a timing word", ferghulta_level_of_difference(1, 255).refusal, FERGHULTA_REFUSED_CODE);
+    expect("level in no system", ferghulta_level_of_difference(0, 0).refusal, FERGHULTA_REFUSED_SYSTEM);
 }
 
 static void widths(void) {
@@ -218,6 +242,7 @@ int main(void) {
     triples();
     rules();
     nominal_calls();
+    levels();
     widths();
     listing();
     rows_in_any_order();

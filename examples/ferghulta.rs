@@ -4,8 +4,8 @@
 
 use core::fmt;
 
-/// The version of the header that this file follows, as one number: 30000 is 3.0.0.
-pub const VERSION: u32 = 30000;
+/// The version of the header that this file follows, as one number: 30100 is 3.1.0.
+pub const VERSION: u32 = 30100;
 
 /// The version of the archive that the program is linked with.
 #[must_use]
@@ -146,6 +146,14 @@ pub struct Decoded {
     pub codes: Codes,
 }
 
+/// Whole millivolts, rounded down, also below 0, and the rest over 219s (R', G', B', Y') or 224s (Cb, Cr).
+#[derive(Clone, Copy, Debug, PartialEq, Eq)]
+#[repr(C)]
+pub struct Level {
+    pub millivolts: i32,
+    pub remainder: u32,
+}
+
 /// What a block's header says, and the clipped total of its samples.
 #[derive(Clone, Copy, Debug, PartialEq, Eq)]
 pub struct Block {
@@ -191,6 +199,8 @@ unsafe extern "C" {
     safe fn ferghulta_words_of_codes(system: System, codes: Codes) -> Answer<Limited>;
     safe fn ferghulta_trimmed_words_of_codes(system: System, codes: Codes) -> Answer<Limited>;
     safe fn ferghulta_codes_of_words(system: System, words: Words) -> Answer<Decoded>;
+    safe fn ferghulta_level_of_code(system: System, code: u16) -> Answer<Level>;
+    safe fn ferghulta_level_of_difference(system: System, word: u16) -> Answer<Level>;
     safe fn ferghulta_new() -> Kept;
     safe fn ferghulta_open(picture: Kept, system: System, width: u32, height: u32) -> Answer<Kept>;
     safe fn ferghulta_close(picture: Kept) -> Answer<Kept>;
@@ -236,6 +246,16 @@ impl System {
     /// Takes words of video data, and clips the codes to video data.
     pub fn codes_of_words(self, words: Words) -> Result<Decoded, Refusal> {
         ferghulta_codes_of_words(self, words).result()
+    }
+
+    /// Takes an R', G', B' or Y' code of video data.
+    pub fn level_of_code(self, code: u16) -> Result<Level, Refusal> {
+        ferghulta_level_of_code(self, code).result()
+    }
+
+    /// Takes a Cb or Cr word of video data.
+    pub fn level_of_difference(self, word: u16) -> Result<Level, Refusal> {
+        ferghulta_level_of_difference(self, word).result()
     }
 }
 

@@ -102,6 +102,20 @@ static void show_words(const char *lamp, const char *encoding, ferghulta_words_a
            (unsigned)answer.words.cr, (unsigned)answer.moved);
 }
 
+static void show_level(const char *word, ferghulta_level_answer answer, unsigned parts) {
+    must_accept(answer.refusal);
+    printf(" %s %d + %u/%u mV", word, (int)answer.level.millivolts, (unsigned)answer.level.remainder, parts);
+}
+
+/* Millivolts are rounded down: -38 + 112/224 is -37.5. */
+static void show_levels(const char *lamp, ferghulta_words words) {
+    printf("%-16s %-8s", lamp, "levels");
+    show_level("Y'", ferghulta_level_of_code(FERGHULTA_BT709_8, words.y), 219);
+    show_level("Cb", ferghulta_level_of_difference(FERGHULTA_BT709_8, words.cb), 224);
+    show_level("Cr", ferghulta_level_of_difference(FERGHULTA_BT709_8, words.cr), 224);
+    printf("\n");
+}
+
 /* Blue lamps beyond nominal. Before the rules the saturated one's Cb is 257 and the duller one's 248. */
 static void lamps(void) {
     const ferghulta_codes saturated = {1, 1, 254}, duller = {16, 16, 250};
@@ -109,6 +123,7 @@ static void lamps(void) {
     show_words("saturated lamp", "trimmed", ferghulta_trimmed_words_of_codes(FERGHULTA_BT709_8, saturated));
     show_words("duller lamp", "plain", ferghulta_words_of_codes(FERGHULTA_BT709_8, duller));
     show_words("duller lamp", "trimmed", ferghulta_trimmed_words_of_codes(FERGHULTA_BT709_8, duller));
+    show_levels("saturated lamp", ferghulta_words_of_codes(FERGHULTA_BT709_8, saturated).words);
 }
 
 static void show(const char *call, uint32_t refusal) {
@@ -138,7 +153,7 @@ int main(void) {
     for (uint32_t system = FERGHULTA_BT709_8; system <= FERGHULTA_BT2020_12; system++)
         send_and_read(system, names[system - 1]);
     segmented_order();
-    printf("\nwords of super-whites, BT.709 8 bits\n");
+    printf("\nwords and levels of super-whites, BT.709 8 bits\n");
     lamps();
     printf("\n%-32s %s\n", "refused call", "number and meaning");
     refusals();

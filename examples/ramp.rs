@@ -1,5 +1,6 @@
 //! examples/ramp.c in Rust: the same calls, the same lines. `make example-rust` runs it and compares the two.
-use ferghulta::{read_block, to_progressive, to_segmented, version, Codes, Encoding, Limited, Picture, Refusal, System, VERSION};
+use ferghulta::{read_block, to_progressive, to_segmented, version, VERSION};
+use ferghulta::{Codes, Encoding, Level, Limited, Picture, Refusal, System, Words};
 
 const WIDTH: usize = 1920;
 const HEIGHT: usize = 32;
@@ -80,6 +81,17 @@ fn segmented_order() -> Result<(), Refusal> {
     Ok(())
 }
 
+/// Millivolts are rounded down: -38 + 112/224 is -37.5.
+fn show_levels(lamp: &str, words: Words) -> Result<(), Refusal> {
+    let system = System::Bt709Bits8;
+    let shown = |level: Level, parts: u32| format!("{} + {}/{parts} mV", level.millivolts, level.remainder);
+    let y = shown(system.level_of_code(words.y)?, 219);
+    let cb = shown(system.level_of_difference(words.cb)?, 224);
+    let cr = shown(system.level_of_difference(words.cr)?, 224);
+    println!("{lamp:<16} {:<8} Y' {y} Cb {cb} Cr {cr}", "levels");
+    Ok(())
+}
+
 /// Blue lamps beyond nominal. Before the rules the saturated one's Cb is 257 and the duller one's 248.
 fn lamps() -> Result<(), Refusal> {
     let saturated = Codes { r: 1, g: 1, b: 254 };
@@ -90,7 +102,7 @@ fn lamps() -> Result<(), Refusal> {
             println!("{lamp:<16} {name:<8} {:>3} {:>3} {:>3}, moved {moved}", words.y, words.cb, words.cr);
         }
     }
-    Ok(())
+    show_levels("saturated lamp", System::Bt709Bits8.words_of_codes(Encoding::Plain, saturated)?.words)
 }
 
 fn show<T>(call: &str, result: Result<T, Refusal>) {
@@ -132,7 +144,7 @@ fn main() -> Result<(), Refusal> {
         send_and_read(system, name)?;
     }
     segmented_order()?;
-    println!("\nwords of super-whites, BT.709 8 bits");
+    println!("\nwords and levels of super-whites, BT.709 8 bits");
     lamps()?;
     println!("\n{:<32} number and meaning", "refused call");
     refusals()

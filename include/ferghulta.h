@@ -27,11 +27,11 @@
 #include <stdint.h>
 
 #define FERGHULTA_VERSION_MAJOR 3
-#define FERGHULTA_VERSION_MINOR 0
+#define FERGHULTA_VERSION_MINOR 1
 #define FERGHULTA_VERSION_PATCH 0
-#define FERGHULTA_VERSION "3.0.0"
+#define FERGHULTA_VERSION "3.1.0"
 
-/* The version as one number to compare, in #if too: 30000 is 3.0.0. CHANGELOG.md says what a version promises. */
+/* The version as one number to compare, in #if too: 30100 is 3.1.0. CHANGELOG.md says what a version promises. */
 #define FERGHULTA_VERSION_NUMBER                                                                                       \
     (10000 * FERGHULTA_VERSION_MAJOR + 100 * FERGHULTA_VERSION_MINOR + FERGHULTA_VERSION_PATCH)
 
@@ -197,6 +197,27 @@ typedef struct ferghulta_decoded_answer {
 /* R', G' and B' of words of video data, clipped to video data. Refused: 1, 6 (a word is not video data). */
 FERGHULTA_MUST_USE ferghulta_decoded_answer ferghulta_codes_of_words(uint32_t system, ferghulta_words words);
 
+/* ---- Levels in millivolts, as a waveform bench reads codes: 700 * (D - 16s) / (219s) of an R', G', B' or Y' code D,
+ * 700 * (C - 128s) / (224s) of a Cb or Cr word C. `millivolts` are the whole ones, rounded down, also below 0, and
+ * `remainder`, from 0 to 219s - 1 or 224s - 1, is the rest over 219s or 224s. So the exact level is
+ * millivolts + remainder / (219s), or millivolts + remainder / (224s). */
+
+typedef struct ferghulta_level {
+    int32_t millivolts;
+    uint32_t remainder;
+} ferghulta_level;
+
+typedef struct ferghulta_level_answer {
+    uint32_t refusal;
+    ferghulta_level level;
+} ferghulta_level_answer;
+
+/* The level of an R', G', B' or Y' code of video data. Refused: 1, 6 (the code is not video data). */
+FERGHULTA_MUST_USE ferghulta_level_answer ferghulta_level_of_code(uint32_t system, uint16_t code);
+
+/* The level of a Cb or Cr word of video data. Refused: 1, 6 (the word is not video data). */
+FERGHULTA_MUST_USE ferghulta_level_answer ferghulta_level_of_difference(uint32_t system, uint16_t word);
+
 /* ---- Row blocks: system (1 byte), row number (2), then Y', Cb and Cr, each a count (2) and that many words (2 each);
  * all unsigned, low byte first. */
 
@@ -317,6 +338,7 @@ FERGHULTA_LAYOUT(ferghulta_codes_answer, 12);    /* 4 + 6 + 2 */
 FERGHULTA_LAYOUT(ferghulta_words_answer, 16);    /* 4 + 4 + 6 + 2 */
 FERGHULTA_LAYOUT(ferghulta_signals_answer, 16);  /* 4 + 12 */
 FERGHULTA_LAYOUT(ferghulta_decoded_answer, 16);  /* 4 + 4 + 6 + 2 */
+FERGHULTA_LAYOUT(ferghulta_level_answer, 12);    /* 4 + 8 */
 FERGHULTA_LAYOUT(ferghulta_block_answer, 16);    /* 4 + 4 + 4 + 4 */
 FERGHULTA_LAYOUT(ferghulta_picture, 8);          /* 2 + 6 */
 FERGHULTA_LAYOUT(ferghulta_picture_answer, 12);  /* 4 + 8 */

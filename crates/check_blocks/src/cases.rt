@@ -10,6 +10,7 @@ use block::Header;
 use check_records::Tally;
 use check_records::u16_at;
 use check_records::u32_at;
+use check_records::wide;
 
 // What stands before a case's block.
 struct Case {
@@ -73,12 +74,6 @@ fn case_at(cases: &[u8], at: usize) -> Case
         samples: u16_at(cases, at + 10),
         clipped: u32_at(cases, at + 12),
     }
-}
-
-fn wide(x: u16) -> u32
-    ensures { λ r. ⌜ r ≡ x ⌝ }
-{
-    x as u32
 }
 
 // Reads the case's block, which stands at the front of bytes, before the codes that are due. The slice has room for any number of

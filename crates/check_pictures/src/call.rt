@@ -9,6 +9,7 @@ use block::BlockRead;
 use block::Header;
 use check_records::u16_at;
 use check_records::u32_at;
+use check_records::wide;
 use picture::Change;
 use picture::Picture;
 use systems::Refusal;
@@ -51,12 +52,6 @@ pub fn call_at(calls: &[u8], at: usize) -> Call
         second: u32_at(calls, at + 18),
         third: u32_at(calls, at + 22),
     }
-}
-
-fn wide(x: u16) -> u32
-    ensures { λ r. ⌜ r ≡ x ⌝ }
-{
-    x as u32
 }
 
 impl Call {

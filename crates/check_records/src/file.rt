@@ -34,6 +34,12 @@ pub fn u32_at(bytes: &[u8], at: usize) -> u32
     joined_words(u16_at(bytes, at), u16_at(bytes, at + 2))
 }
 
+pub fn wide(x: u16) -> u32
+    ensures { λ r. ⌜ r ≡ x ⌝ }
+{
+    x as u32
+}
+
 fn joined(low: u8, high: u8) -> u16
     ensures { λ r. ⌜ r ≡ low + 256 * high ⌝ }
 {

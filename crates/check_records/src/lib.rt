@@ -9,6 +9,7 @@ pub use alike::begin_alike;
 pub use file::read;
 pub use file::u16_at;
 pub use file::u32_at;
+pub use file::wide;
 pub use range::black;
 pub use range::white;
 pub use tally::Tally;

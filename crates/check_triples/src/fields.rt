@@ -30,9 +30,3 @@ pub fn codes(records: &[u8], at: usize) -> Codes
         b: u16_at(records, at + 4),
     }
 }
-
-pub fn wide(x: u16) -> u32
-    ensures { λ r. ⌜ r ≡ x ⌝ }
-{
-    x as u32
-}

@@ -9,6 +9,7 @@ use crate::triple;
 use check_records::Tally;
 use check_records::u16_at;
 use check_records::u32_at;
+use check_records::wide;
 use signals::Quantised;
 use signals::Signals;
 use systems::Codes;
@@ -42,12 +43,6 @@ fn case_at(records: &[u8], at: usize) -> Case
         code: u16_at(records, at + 2),
         signal: float::from_bits(u32_at(records, at + 4)),
     }
-}
-
-fn wide(x: u16) -> u32
-    ensures { λ r. ⌜ r ≡ x ⌝ }
-{
-    x as u32
 }
 
 impl Case {

@@ -43,7 +43,7 @@ natAbs-less a b = omega (arith, natAbs-add a (negℤ b), natAbs-neg b)
 pub natAbs-mul-le : (a b : ℤ) (m n : ℕ) → natAbs a ≤ m → natAbs b ≤ n → natAbs (a *ℤ b) ≤ m * n
 natAbs-mul-le a b m n h k = rw (natAbs-mul a b) (le-trans (mul-le-mul-left (natAbs a) k) (mul-le-mul-right n h))
 
-mag-le : (z : ℤ) → mag z ≤ natAbs z
+pub mag-le : (z : ℤ) → mag z ≤ natAbs z
 mag-le (pos n) = le-refl n
 mag-le (negsuc n) = le-suc n
 

@@ -11,6 +11,7 @@ use Rattle.light.specs.declared.Span.{Span}
 use Rattle.signals.specs.declared.Signals.{Signals}
 use Rattle.matrix.specs.declared.Limited.{Limited}
 use Rattle.matrix.specs.declared.Clipped.{Clipped}
+use Rattle.levels.specs.declared.Level.{Level}
 use Rattle.block.specs.declared.Header.{Header}
 use Rattle.ferghulta.specs.declared.calls.CodeAnswer.{CodeAnswer}
 use Rattle.ferghulta.specs.declared.calls.SpanAnswer.{SpanAnswer}
@@ -18,6 +19,7 @@ use Rattle.ferghulta.specs.declared.calls.CodesAnswer.{CodesAnswer}
 use Rattle.ferghulta.specs.declared.calls.SignalsAnswer.{SignalsAnswer}
 use Rattle.ferghulta.specs.declared.calls.WordsAnswer.{WordsAnswer}
 use Rattle.ferghulta.specs.declared.calls.DecodedAnswer.{DecodedAnswer}
+use Rattle.ferghulta.specs.declared.calls.LevelAnswer.{LevelAnswer}
 use Rattle.ferghulta.specs.declared.calls.BlockAnswer.{BlockAnswer}
 
 abbrev pub codeAnswer : Outcome ℕ → CodeAnswer
@@ -49,6 +51,10 @@ wordsAnswer (refused n) = record { refusal = n; moved = 0; words = record { y = 
 abbrev pub decodedAnswer : Outcome Clipped → DecodedAnswer
 decodedAnswer (accepted c) = record { refusal = 0; clipped = c .clips .total; codes = c .codes }
 decodedAnswer (refused n) = record { refusal = n; clipped = 0; codes = noCodes }
+
+abbrev pub levelAnswer : Outcome Level → LevelAnswer
+levelAnswer (accepted l) = record { refusal = 0; level = l }
+levelAnswer (refused n) = record { refusal = n; level = record { millivolts = pos 0; remainder = 0 } }
 
 abbrev pub blockAnswer : Outcome Header → BlockAnswer
 blockAnswer (accepted h) = record { refusal = 0; system = number (h .system); clipped = h .clips .total; row = h .row; samples = h .samples }

@@ -5,9 +5,12 @@ ghost use Rattle.light.specs.Light.{codeOfLight, spanOfCode};
 ghost use Rattle.signals.specs.Signals.{signalCodes, codeSignals};
 ghost use Rattle.matrix.specs.declared.Encoding.the-variants.{Plain, Trim};
 ghost use Rattle.matrix.specs.Triples.{wordsOfCodes, codesOfWords};
+ghost use Rattle.levels.specs.Levels.{levelOfCode, levelOfDifference, levelOutcome};
 ghost use Rattle.block.specs.Read.{headerOf, sliceAfter};
-ghost use Rattle.ferghulta.specs.Answers.{codeAnswer, spanAnswer, codesAnswer, signalsAnswer, wordsAnswer, decodedAnswer, blockAnswer};
+ghost use Rattle.ferghulta.specs.Answers.{codeAnswer, spanAnswer, codesAnswer, signalsAnswer, wordsAnswer, decodedAnswer, levelAnswer, blockAnswer};
 use block::BlockRead;
+use levels::CodeLevel;
+use levels::Level;
 use light::CodeSpan;
 use light::LightCode;
 use light::Span;
@@ -56,6 +59,12 @@ pub struct DecodedAnswer {
     pub refusal: u32,
     pub clipped: u32,
     pub codes: Codes,
+}
+
+#[repr(C)]
+pub struct LevelAnswer {
+    pub refusal: u32,
+    pub level: Level,
 }
 
 #[repr(C)]
@@ -182,6 +191,35 @@ pub extern "C" fn ferghulta_codes_of_words(system: u32, words: Words) -> Decoded
             refusal: r.number(),
             clipped: 0,
             codes: NO_CODES,
+        },
+    }
+}
+
+#[no_mangle]
+pub extern "C" fn ferghulta_level_of_code(system: u32, code: u16) -> LevelAnswer
+    ensures { λ r. ⌜ r ≡ levelAnswer (levelOfCode system code) ⌝ }
+{
+    level_answer(levels::level_of_code(system, code))
+}
+
+#[no_mangle]
+pub extern "C" fn ferghulta_level_of_difference(system: u32, word: u16) -> LevelAnswer
+    ensures { λ r. ⌜ r ≡ levelAnswer (levelOfDifference system word) ⌝ }
+{
+    level_answer(levels::level_of_difference(system, word))
+}
+
+fn level_answer(found: CodeLevel) -> LevelAnswer
+    ensures { λ r. ⌜ r ≡ levelAnswer (levelOutcome found) ⌝ }
+{
+    match found {
+        CodeLevel::Level(level) => LevelAnswer { refusal: 0, level },
+        CodeLevel::Refused(r) => LevelAnswer {
+            refusal: r.number(),
+            level: Level {
+                millivolts: 0,
+                remainder: 0,
+            },
         },
     }
 }

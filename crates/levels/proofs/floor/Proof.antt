@@ -42,8 +42,11 @@ module _ (c : tie.Start) where
   rest-read : toZ w64 (ofZ w64 (remZ (toZ w64 (ofZ w64 z)) (toZ w64 (ofZ w64 (c .args .bottom))))) ≡ remZ z (pos k)
   rest-read = rw (top-read, bottom-read) (toZ-ofZ w64 (remZ z (pos k)) (sfits-le (mag-rem z (pos k)) (c .fits .top)))
 
-  one-less : natAbs (quotZ z (pos k) -ℤ pos 1) < 2 ^ 63
-  one-less = omega (arith, natAbs-less (quotZ z (pos k)) (pos 1), small)
+  abbrev less : ℤ
+  less = quotZ z (pos k) -ℤ pos 1
+
+  less-small : natAbs less < 2 ^ 63
+  less-small = omega (arith, natAbs-less (quotZ z (pos k)) (pos 1), small)
 
 div-quotient : tie.Need-div-quotient
 div-quotient c = divisible c
@@ -52,12 +55,12 @@ rem-if1 : tie.Need-rem-if1
 rem-if1 c = divisible c
 
 sub-result : tie.Need-sub-result
-sub-result c = let s = c .before in rw (quotient-read s) (fits-i64 (quotZ (z s) (pos (k s)) -ℤ pos 1) (one-less s))
+sub-result c = let s = c .before in rw (quotient-read s) (fits-i64 (less s) (less-small s))
 
 returns : tie.Need-returns
 returns c =
     let s = c .before in
-    rw (quotient-read s) (reads-back (quotZ (z s) (pos (k s)) -ℤ pos 1) (one-less s) ∙ one-down (z s) (k s) (above s) (ap (λ (r : ℤ). ltZ r (pos 0)) (sym (rest-read s)) ∙ c .if1 .taken))
+    rw (quotient-read s) (reads-back (less s) (less-small s) ∙ one-down (z s) (k s) (above s) (ap (λ (r : ℤ). ltZ r (pos 0)) (sym (rest-read s)) ∙ c .if1 .taken))
 
 returns-2 : tie.Need-returns-2
 returns-2 c = let s = c .before in quotient-read s ∙ rounded-down (z s) (k s) (above s) (ap (λ (r : ℤ). ltZ r (pos 0)) (sym (rest-read s)) ∙ c .if1 .left)

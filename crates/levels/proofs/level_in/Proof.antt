@@ -13,7 +13,7 @@ use Rattle.levels.specs.Levels.{levelRatio, divided}
 use Rattle.levels.proofs.level_in.Statement.{statement}
 use Rattle.levels.proofs.level_in.Tie as tie
 
-scaled-small : (n s : ℕ) → n < 65536 → s ≤ 16 → n * s ≤ 1048560
+scaled-small : (n s : ℕ) → n < 65536 → s ≤ 16 → n * s ≤ 65535 * 16
 scaled-small n s h l = omega (arith, mul-le-mul-left n l)
 
 module _ (c : tie.After-scale) where
@@ -23,7 +23,7 @@ module _ (c : tie.After-scale) where
   s-range : (0 < s) × (s ≤ 16)
   s-range = omega (arith, c .scale .ensures, scale-range (c .before .args .y))
 
-zero-small : (c : tie.After-struct-known) → c .before .before .args .gauge .zero * s (c .before) ≤ 1048560
+zero-small : (c : tie.After-struct-known) → c .before .before .args .gauge .zero * s (c .before) ≤ 65535 * 16
 zero-small c = scaled-small (c .before .before .args .gauge .zero) (s (c .before)) (omega (arith, c .struct-known .given)) (s-range (c .before) .1)
 
 module _ (c : tie.After-struct-known2) where
@@ -39,14 +39,14 @@ module _ (c : tie.After-struct-known2) where
   abbrev above : ℤ
   above = pos code -ℤ pos zero
 
-  steps-small : steps ≤ 1048560
+  steps-small : steps ≤ 65535 * 16
   steps-small = scaled-small (c .before .before .before .args .gauge .steps) (s (c .before .before)) (omega (arith, c .struct-known2 .given)) (s-range (c .before .before) .1)
 
-  above-small : natAbs above ≤ 1114095
+  above-small : natAbs above ≤ 65535 * 17
   above-small = omega (arith, natAbs-less (pos code) (pos zero), zero-small (c .before))
 
-  top-small : natAbs (pos 700 *ℤ above) ≤ 700 * 1114095
-  top-small = natAbs-mul-le (pos 700) above 700 1114095 (omega arith) above-small
+  top-small : natAbs (pos 700 *ℤ above) ≤ 700 * (65535 * 17)
+  top-small = natAbs-mul-le (pos 700) above 700 (65535 * 17) (omega arith) above-small
 
   above-is : toZ w64 code -ℤ toZ w64 zero ≡ above
   above-is = λ i. toZ-pos w64 code (omega arith) i -ℤ toZ-pos w64 zero (omega (arith, zero-small (c .before))) i

@@ -102,6 +102,15 @@ static void level_of_difference(const struct rows *rows)
     sink = sum;
 }
 
+// Codes of every system are widths and heights that are accepted.
+static void total_bytes(const struct rows *rows)
+{
+    uint32_t sum = 0;
+    for (size_t i = 0; i < ARGUMENTS; i++)
+        sum += ferghulta_total_bytes(rows->codes[0][i], rows->codes[1][i]).bytes;
+    sink = sum;
+}
+
 static void row_of_one(const struct rows *rows)
 {
     our_rows((struct rows *)rows).run((void *)rows);
@@ -123,7 +132,7 @@ void time_calls(const struct system *system, int rounds, struct call calls[CALLS
         {"codes_of_signals", codes_of_signals},  {"signals_of_codes", signals_of_codes},
         {"words_of_codes", words_of_codes},      {"trimmed_words_of_codes", trimmed_words_of_codes},
         {"codes_of_words", codes_of_words},      {"level_of_code", level_of_code},
-        {"level_of_difference", level_of_difference},
+        {"level_of_difference", level_of_difference}, {"total_bytes", total_bytes},
     };
     struct rows *rows = rows_new(system, 1, ARGUMENTS);
     for (int c = 0; c < CALLS; c++)

@@ -1,5 +1,6 @@
 //! The answers of include/ferghulta.h, and the exact outcomes in that form: a refusal's other numbers are 0.
-use crate::exact::{system, Level, Opened, Outcome, Picture as State, Row, MOST_ROWS, MOST_SAMPLES};
+use crate::exact::{block_bytes, system, Level, Opened, Outcome, Picture as State, Row, MOST_ROWS, MOST_SAMPLES};
+use std::mem::size_of;
 
 #[repr(C)]
 #[derive(Debug, PartialEq)]
@@ -76,6 +77,7 @@ pub struct Picture {
     pub width: u16,
     pub height: u16,
     pub rows: u16,
+    pub bytes: u32,
 }
 
 #[repr(C)]
@@ -84,6 +86,16 @@ pub struct PictureAnswer {
     pub refusal: u32,
     pub picture: Picture,
 }
+
+#[repr(C)]
+#[derive(Debug, PartialEq)]
+pub struct TotalAnswer {
+    pub refusal: u32,
+    pub bytes: u32,
+}
+
+// The header's layout: no byte of a picture or of its answer is padding.
+const _: () = assert!(size_of::<Picture>() == 12 && size_of::<PictureAnswer>() == 16 && size_of::<TotalAnswer>() == 8);
 
 /// The refusal's number, or 0, and the values, or zeros.
 fn parts<T: Default>(outcome: Outcome<T>) -> (u32, T) {
@@ -193,23 +205,32 @@ impl From<&Outcome<Row>> for BlockAnswer {
     }
 }
 
+impl From<Outcome<u32>> for TotalAnswer {
+    fn from(outcome: Outcome<u32>) -> TotalAnswer {
+        let (refusal, bytes) = parts(outcome);
+        TotalAnswer { refusal, bytes }
+    }
+}
+
 impl Picture {
-    /// A picture without the numbers of an open one.
-    pub fn unopened(phase: u8) -> Picture {
+    /// A picture without the numbers of an open one; a closed one has the bytes that it took.
+    pub fn unopened(phase: u8, bytes: u32) -> Picture {
         Picture {
             phase,
             system: 0,
             width: 0,
             height: 0,
             rows: 0,
+            bytes,
         }
     }
 
     /// The state that the calls take this picture for: a value that no call gives is a fresh picture.
     pub fn taken(self) -> State {
+        let bytes = self.bytes as usize;
         match self.phase {
             1 => self.taken_open(),
-            2 => State::Closed,
+            2 => State::Closed { bytes },
             _ => State::Fresh,
         }
     }
@@ -217,10 +238,12 @@ impl Picture {
     fn taken_open(self) -> State {
         let number = u32::from(self.system);
         let [width, height, rows] = [self.width, self.height, self.rows].map(usize::from);
+        let bytes = self.bytes as usize;
         let proper = system(number).is_ok()
             && (1..=MOST_SAMPLES).contains(&width)
             && (1..=MOST_ROWS).contains(&height)
-            && rows <= height;
+            && rows <= height
+            && bytes == rows * block_bytes(width);
         if !proper {
             return State::Fresh;
         }
@@ -229,6 +252,7 @@ impl Picture {
             width,
             height,
             rows,
+            bytes,
         })
     }
 }
@@ -236,14 +260,15 @@ impl Picture {
 impl From<State> for Picture {
     fn from(state: State) -> Picture {
         match state {
-            State::Fresh => Picture::unopened(0),
-            State::Closed => Picture::unopened(2),
+            State::Fresh => Picture::unopened(0, 0),
+            State::Closed { bytes } => Picture::unopened(2, bytes as u32),
             State::Open(opened) => Picture {
                 phase: 1,
                 system: opened.system as u8,
                 width: opened.width as u16,
                 height: opened.height as u16,
                 rows: opened.rows as u16,
+                bytes: opened.bytes as u32,
             },
         }
     }

@@ -1,4 +1,4 @@
-//! The bench values of document 01 and of requests 2026-03 to 2026-05, of the exact program itself.
+//! The bench values of document 01 and of requests 2026-03 to 2026-06, of the exact program itself.
 use crate::exact::*;
 
 pub fn check() {
@@ -8,6 +8,7 @@ pub fn check() {
     rules();
     blocks();
     levels();
+    totals();
 }
 
 fn lights() {
@@ -92,4 +93,13 @@ fn levels() {
     assert_eq!(level_of_code(1, 0), Err(refusal::CODE));
     assert_eq!(level_of_difference(1, 255), Err(refusal::CODE));
     assert_eq!(level_of_difference(0, 0), Err(refusal::SYSTEM));
+}
+
+/// The width is tested before the height.
+fn totals() {
+    assert_eq!(total_bytes(1, 1), Ok(15));
+    assert_eq!(total_bytes(1920, 1080), Ok(12_451_320));
+    assert_eq!(total_bytes(7680, 4320), Ok(199_104_480));
+    assert_eq!([0, 7681].map(|width| total_bytes(width, 0)), [Err(refusal::WIDTH); 2]);
+    assert_eq!([0, 4321].map(|height| total_bytes(1, height)), [Err(refusal::HEIGHT); 2]);
 }

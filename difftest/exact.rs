@@ -533,11 +533,12 @@ fn section(rest: &mut &[u8], like: Option<usize>) -> Outcome<Vec<u16>> {
 
 // ---- 'Picture'
 
+/// Request 2026-06: the state 'also carries the bytes written so far', a closed one those of the picture that was closed.
 #[derive(Clone, Copy, Debug, PartialEq)]
 pub enum Picture {
     Fresh,
     Open(Opened),
-    Closed,
+    Closed { bytes: usize },
 }
 
 #[derive(Clone, Copy, Debug, PartialEq)]
@@ -546,20 +547,27 @@ pub struct Opened {
     pub width: usize,
     pub height: usize,
     pub rows: usize,
+    pub bytes: usize,
+}
+
+fn size(width: u32, height: u32) -> Outcome<(usize, usize)> {
+    let (width, height) = (width as usize, height as usize);
+    require((1..=MOST_SAMPLES).contains(&width), refusal::WIDTH)?;
+    require((1..=MOST_ROWS).contains(&height), refusal::HEIGHT)?;
+    Ok((width, height))
 }
 
 /// State is tested first, then input in the order of the numbers.
 pub fn open(picture: Picture, number: u32, width: u32, height: u32) -> Outcome<Picture> {
     require(!matches!(picture, Picture::Open(_)), refusal::ALREADY_OPEN)?;
     let system = system(number)?.number;
-    let (width, height) = (width as usize, height as usize);
-    require((1..=MOST_SAMPLES).contains(&width), refusal::WIDTH)?;
-    require((1..=MOST_ROWS).contains(&height), refusal::HEIGHT)?;
+    let (width, height) = size(width, height)?;
     Ok(Picture::Open(Opened {
         system,
         width,
         height,
         rows: 0,
+        bytes: 0,
     }))
 }
 
@@ -577,14 +585,14 @@ pub fn row(picture: Picture, lights: &[u16], room: usize) -> Outcome<(Picture, V
     require(lights.len() == 3 * opened.width, refusal::LIGHTS)?;
     require(room >= block_bytes(opened.width), refusal::OUTPUT)?;
     let block = block_of_lights(system(opened.system)?, opened.rows as u16, lights);
-    let rows = opened.rows + 1;
-    Ok((Picture::Open(Opened { rows, ..opened }), block))
+    let (rows, bytes) = (opened.rows + 1, opened.bytes + block.len());
+    Ok((Picture::Open(Opened { rows, bytes, ..opened }), block))
 }
 
 pub fn close(picture: Picture) -> Outcome<Picture> {
     let opened = opened(picture)?;
     require(opened.rows == opened.height, refusal::ROWS_MISSING)?;
-    Ok(Picture::Closed)
+    Ok(Picture::Closed { bytes: opened.bytes })
 }
 
 // ---- request 2026-01, segmented frames
@@ -653,4 +661,12 @@ pub fn level_of_code(number: u32, code: u16) -> Outcome<Level> {
 /// 700·(C − 128s)/(224s) for Cb, Cr.
 pub fn level_of_difference(number: u32, word: u16) -> Outcome<Level> {
     level(number, word, 128, 224)
+}
+
+// ---- request 2026-06, bytes of a picture
+
+/// 'height·(9 + 6·width), with 2 and 3 as in open'.
+pub fn total_bytes(width: u32, height: u32) -> Outcome<u32> {
+    let (width, height) = size(width, height)?;
+    Ok((height * (9 + 6 * width)) as u32)
 }

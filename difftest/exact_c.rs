@@ -100,3 +100,8 @@ pub extern "C" fn exact_level_of_code(system: u32, code: u16) -> LevelAnswer {
 pub extern "C" fn exact_level_of_difference(system: u32, word: u16) -> LevelAnswer {
     exact::level_of_difference(system, word).into()
 }
+
+#[no_mangle]
+pub extern "C" fn exact_total_bytes(width: u32, height: u32) -> TotalAnswer {
+    exact::total_bytes(width, height).into()
+}

@@ -128,6 +128,13 @@ static void read_row(struct list *list)
     agree(READ_BLOCK, "the codes", codes, wanted_codes, sizeof codes);
 }
 
+/* Mostly those of the picture's rows, else a few more or fewer, others with the same low half, or any. */
+static uint32_t any_bytes(struct list *list, uint32_t bytes)
+{
+    uint8_t kind = byte(list);
+    return kind < 160 ? bytes : kind < 224 ? bytes + kind - 192 : kind < 240 ? bytes ^ 1u << 16 : long_word(list);
+}
+
 /* A picture that came from no call: its numbers are mostly in their ranges. */
 static void any_picture(struct list *list)
 {
@@ -135,7 +142,14 @@ static void any_picture(struct list *list)
     list->picture.system = (uint8_t)number(list, 6);
     list->picture.width = (uint16_t)number(list, 12);
     list->picture.height = word(list) % 5000;
-    list->picture.rows = word(list) % 5000;
+    list->picture = ferghulta_at_row(list->picture, word(list) % 5000);
+    list->picture.bytes = any_bytes(list, list->picture.bytes);
+}
+
+/* The picture that the calls made, with other bytes. */
+static void damage_bytes(struct list *list)
+{
+    list->picture.bytes = any_bytes(list, list->picture.bytes);
 }
 
 /* ---- values; the parts of an answer have no padding, the answer may */
@@ -199,8 +213,23 @@ static void levels(struct list *list)
     AGREE(LEVEL_OF_DIFFERENCE, of_difference, exactly_of_difference, level);
 }
 
+/* Mostly a width or height, or a little more than the most, else any. */
+static uint32_t any_size(struct list *list, uint32_t most)
+{
+    uint32_t any = long_word(list);
+    return byte(list) < 240 ? any % (most + 8) : any;
+}
+
+static void totals(struct list *list)
+{
+    uint32_t width = any_size(list, FERGHULTA_MOST_SAMPLES), height = any_size(list, FERGHULTA_MOST_ROWS);
+    ferghulta_total_answer got = ferghulta_total_bytes(width, height), wanted = exact_total_bytes(width, height);
+    AGREE(TOTAL_BYTES, got, wanted, bytes);
+}
+
 static void (*const calls[])(struct list *) = {
-    open_picture, take_row, take_row, take_row, close_picture, read_row, any_picture, lights_and_codes, signals, triples, levels,
+    open_picture, take_row, take_row, take_row, close_picture, read_row, any_picture, damage_bytes, totals, lights_and_codes, signals,
+    triples, levels,
 };
 
 int LLVMFuzzerTestOneInput(const uint8_t *data, size_t size)

@@ -24,11 +24,13 @@ enum call {
     CODES_OF_WORDS,
     LEVEL_OF_CODE,
     LEVEL_OF_DIFFERENCE,
+    TOTAL_BYTES,
     CALLS
 };
 
 static const char *const names[CALLS] = { "open", "row", "close", "read_block", "code_of_light", "span_of_code", "codes_of_signals",
-    "signals_of_codes", "words_of_codes", "trimmed_words_of_codes", "codes_of_words", "level_of_code", "level_of_difference" };
+    "signals_of_codes", "words_of_codes", "trimmed_words_of_codes", "codes_of_words", "level_of_code", "level_of_difference",
+    "total_bytes" };
 
 /* The library is not instrumented, so its refusals are told to libFuzzer as counters of their own. */
 __attribute__((section("__libfuzzer_extra_counters"))) static uint8_t refused[CALLS][REFUSALS];

@@ -12,6 +12,7 @@ extern "C" {
     pub fn ferghulta_codes_of_words(system: u32, words: Triple) -> CountedAnswer;
     pub fn ferghulta_level_of_code(system: u32, code: u16) -> LevelAnswer;
     pub fn ferghulta_level_of_difference(system: u32, word: u16) -> LevelAnswer;
+    pub fn ferghulta_total_bytes(width: u32, height: u32) -> TotalAnswer;
     pub fn ferghulta_new() -> Picture;
     pub fn ferghulta_open(p: Picture, system: u32, width: u32, height: u32) -> PictureAnswer;
     pub fn ferghulta_close(picture: Picture) -> PictureAnswer;
@@ -33,13 +34,18 @@ extern "C" {
 }
 
 /// The same calls with what the x86-64 convention leaves open, filled: the upper half of a register with a u32 or a u16, the fourth
-/// word of one with a triple, the upper lane of one with the third float. No answer may depend on it.
+/// word of one with a triple, the upper lane of one with the third float, the upper half of the second one of a picture. No answer
+/// may depend on it.
 pub mod filled {
     use crate::answers::*;
 
     #[repr(C)]
     #[derive(Clone, Copy)]
     pub struct FourSignals(pub Signals, pub f32);
+
+    #[repr(C)]
+    #[derive(Clone, Copy)]
+    pub struct WidePicture(pub Picture, pub u32);
 
     #[allow(clashing_extern_declarations)]
     extern "C" {
@@ -50,6 +56,15 @@ pub mod filled {
         pub fn ferghulta_codes_of_words(system: u64, words: u64) -> CountedAnswer;
         pub fn ferghulta_level_of_code(system: u64, code: u64) -> LevelAnswer;
         pub fn ferghulta_level_of_difference(system: u64, word: u64) -> LevelAnswer;
-        pub fn ferghulta_open(p: Picture, system: u64, width: u64, height: u64) -> PictureAnswer;
+        pub fn ferghulta_total_bytes(width: u64, height: u64) -> TotalAnswer;
+        pub fn ferghulta_open(p: WidePicture, system: u64, width: u64, height: u64) -> PictureAnswer;
+        pub fn ferghulta_close(picture: WidePicture) -> PictureAnswer;
+        pub fn ferghulta_row(
+            picture: WidePicture,
+            lights: *const u16,
+            count: usize,
+            out: *mut u8,
+            room: usize,
+        ) -> PictureAnswer;
     }
 }

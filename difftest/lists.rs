@@ -1,4 +1,5 @@
-//! Lists of open, row and close from a fresh picture beside the row book, and demand 3 of the rows that the book accepts.
+//! Lists of open, row and close from a fresh picture beside the row book, the bytes after each call (request 2026-06), and demand 3
+//! of the rows that the book accepts.
 use crate::answers::{BlockAnswer, Picture, PictureAnswer};
 use crate::blocks::hexadecimal;
 use crate::library;
@@ -23,6 +24,9 @@ struct List {
     picture: Picture,
     book: Book,
     entries: Vec<Entry>,
+    /// What the last accepted open was given, and how many entries there were.
+    size: [u32; 2],
+    entries_before_open: usize,
     buffer: Lent<u8>,
     most_samples: usize,
 }
@@ -35,6 +39,8 @@ impl List {
             picture: unsafe { library::ferghulta_new() },
             book: Book::Fresh,
             entries: vec![],
+            size: [0; 2],
+            entries_before_open: 0,
             buffer: Lent::blank(room, random),
             most_samples,
         }
@@ -62,6 +68,10 @@ impl List {
         let height = random.below(5) as u32;
         let got = unsafe { library::ferghulta_open(self.picture, system, width, height) };
         let outcome = exact::open(self.book, system, width, height);
+        if outcome.is_ok() {
+            self.size = [width, height];
+            self.entries_before_open = self.entries.len();
+        }
         self.compare(tally, got, outcome, &[]);
     }
 
@@ -122,6 +132,23 @@ impl List {
         self.book = outcome.unwrap_or(self.book);
         self.picture = got.picture;
         self.buffer.settle();
+    }
+
+    /// The library's bytes beside the blocks since the last accepted open, and beside its own total from an accepted close on.
+    fn add_up(&self, tally: &mut Tally) {
+        let blocks = self.entries[self.entries_before_open..].iter();
+        let written: usize = blocks.map(|entry| entry.block.len()).sum();
+        let [width, height] = self.size;
+        let total = unsafe { library::ferghulta_total_bytes(width, height) };
+        let bytes = self.picture.bytes;
+        let foretold = !self.is_closed() || total == Ok(bytes).into();
+        tally.count(0, bytes as usize == written && foretold, || {
+            format!("{:?}: {written} bytes in blocks, {total:?} of {width} x {height}", self.picture)
+        });
+    }
+
+    fn is_closed(&self) -> bool {
+        matches!(self.book, Book::Closed { .. })
     }
 }
 
@@ -195,15 +222,17 @@ fn are_words_near(entry: &Entry) -> bool {
 
 pub fn lists(effort: &Effort, random: &mut Pseudorandom) -> bool {
     let mut calls = Tally::new("lists_of_calls");
+    let mut bytes = Tally::new("bytes_written");
     let mut rows = Tally::new("rows_read_back");
     for _ in 0..effort.cases / 20 {
         let mut list = List::begin(random);
         for _ in 0..random.below(60) {
             list.step(&mut calls, random);
+            list.add_up(&mut bytes);
         }
         for entry in &list.entries {
             read_back(&mut rows, entry, random);
         }
     }
-    calls.end() & rows.end()
+    calls.end() & bytes.end() & rows.end()
 }

@@ -90,6 +90,7 @@ fn compare(effort: &Effort, seed: u64) -> bool {
         & segments::segments(effort, random)
         & values::trim_before_guard(effort, random)
         & values::levels(effort, random)
+        & pictures::total_bytes(effort, random)
 }
 
 /// The form, and cases and seed where they are given.

@@ -14,6 +14,7 @@ ferghulta_decoded_answer right_ferghulta_codes_of_words(uint32_t, ferghulta_word
 ferghulta_level_answer right_ferghulta_level_of_code(uint32_t, uint16_t);
 ferghulta_level_answer right_ferghulta_level_of_difference(uint32_t, uint16_t);
 ferghulta_block_answer right_ferghulta_read_block(const uint8_t *, size_t, uint16_t *, size_t);
+ferghulta_total_answer right_ferghulta_total_bytes(uint32_t, uint32_t);
 ferghulta_picture right_ferghulta_new(void);
 ferghulta_picture_answer right_ferghulta_open(ferghulta_picture, uint32_t, uint32_t, uint32_t);
 ferghulta_picture_answer right_ferghulta_row(ferghulta_picture, const uint16_t *, size_t, uint8_t *, size_t);
@@ -318,24 +319,60 @@ ferghulta_block_answer ferghulta_read_block(const uint8_t *bytes, size_t length,
 
 /* ---- pictures and segmented frames */
 
+ferghulta_total_answer ferghulta_total_bytes(uint32_t width, uint32_t height)
+{
+    ferghulta_total_answer answer = right_ferghulta_total_bytes(mutant(67) ? width % 65536 : width, height);
+    if (mutant(60) && answer.refusal == 0)
+        answer.bytes -= height; /* 8 + 6 * width */
+    if (mutant(61) && answer.refusal == 0)
+        answer.bytes = width * (9 + 6 * height); /* exchanged */
+    if (mutant(62))
+        answer.bytes %= 65536;
+    if (mutant(63) && answer.refusal == 2 && !(1 <= height && height <= FERGHULTA_MOST_ROWS))
+        answer.refusal = 3; /* the height before the width */
+    if (mutant(65) && answer.refusal != 0)
+        answer.bytes = height * (9 + 6 * width); /* not 0 on refusal */
+    return answer;
+}
+
 ferghulta_picture ferghulta_new(void)
 {
     return right_ferghulta_new();
 }
 
+/* What an open picture is taken for, where its bytes are not looked at, or their low half alone is. */
+static ferghulta_picture taken(ferghulta_picture picture)
+{
+    ferghulta_picture proper = ferghulta_at_row(picture, picture.rows);
+    int alike = mutant(64) || (mutant(68) && picture.bytes % 65536 == proper.bytes % 65536);
+    return alike && picture.phase == FERGHULTA_OPEN ? proper : picture;
+}
+
+/* A refused picture comes back as it was given, whatever it was taken for. */
+static ferghulta_picture_answer given_back(ferghulta_picture picture, ferghulta_picture_answer answer)
+{
+    if (answer.refusal != 0 && (mutant(64) || mutant(68)))
+        answer.picture = picture;
+    return answer;
+}
+
 ferghulta_picture_answer ferghulta_open(ferghulta_picture picture, uint32_t system, uint32_t width, uint32_t height)
 {
-    ferghulta_picture_answer answer = right_ferghulta_open(picture, system, mutant(15) ? width % 65536 : width, height);
+    ferghulta_picture_answer answer = right_ferghulta_open(taken(picture), system, mutant(15) ? width % 65536 : width, height);
     if (mutant(16) && answer.refusal == 1 && width == 0)
         answer.refusal = 2; /* the width before the system */
     if (mutant(17) && answer.refusal == 21 && picture.rows > 0)
         answer.picture.rows = 0; /* a refused picture is changed */
-    return answer;
+    if (mutant(57) && answer.refusal == 0 && picture.phase == FERGHULTA_CLOSED)
+        answer.picture.bytes = picture.bytes; /* those of the picture before */
+    if (mutant(66) && answer.refusal == 2)
+        answer.picture.bytes = 0; /* at a refused open too */
+    return given_back(picture, answer);
 }
 
 ferghulta_picture_answer ferghulta_row(ferghulta_picture picture, const uint16_t *lights, size_t count, uint8_t *out, size_t room)
 {
-    ferghulta_picture_answer answer = right_ferghulta_row(picture, lights, count, out, room);
+    ferghulta_picture_answer answer = right_ferghulta_row(taken(picture), lights, count, out, room);
     size_t written = FERGHULTA_BLOCK_BYTES(picture.width);
     if (mutant(18) && answer.refusal == 0 && room > written)
         out[written] = 0; /* beyond the block */
@@ -343,17 +380,23 @@ ferghulta_picture_answer ferghulta_row(ferghulta_picture picture, const uint16_t
         out[2] = 0; /* row numbers begin again at 256 */
     if (mutant(20) && answer.refusal == 4 && room < written)
         answer.refusal = 5; /* the room before the lights */
-    return answer;
+    if (mutant(56) && answer.refusal == 5)
+        answer.picture.bytes += (uint32_t)written; /* of a refused row */
+    if (mutant(59) && answer.refusal == 0)
+        answer.picture.bytes -= 1; /* 8 + 6 * width */
+    return given_back(picture, answer);
 }
 
 ferghulta_picture_answer ferghulta_close(ferghulta_picture picture)
 {
-    ferghulta_picture_answer answer = right_ferghulta_close(picture);
+    ferghulta_picture_answer answer = right_ferghulta_close(taken(picture));
     if (mutant(21) && answer.refusal == 24 && picture.rows + 1 == picture.height)
-        answer = (ferghulta_picture_answer){ 0, { 2, 0, 0, 0, 0 } }; /* a row is missing */
+        answer = (ferghulta_picture_answer){ 0, { 2, 0, 0, 0, 0, picture.bytes } }; /* a row is missing */
     if (mutant(22) && answer.refusal == 22 && picture.phase == 1 && picture.rows > picture.height)
         answer.refusal = 24; /* a picture that no call gives, taken as open */
-    return answer;
+    if (mutant(58) && answer.refusal == 0)
+        answer.picture.bytes = 0; /* lost */
+    return given_back(picture, answer);
 }
 
 uint32_t ferghulta_to_segmented(const uint8_t *from, size_t length, uint8_t *to, size_t room)

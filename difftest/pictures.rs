@@ -1,6 +1,6 @@
-//! The calls on a picture, each by itself and on any eight bytes.
-use crate::answers::{Picture, PictureAnswer};
-use crate::library::{self, filled};
+//! The calls on a picture, each by itself and on any twelve bytes, and the total of its bytes.
+use crate::answers::{Picture, PictureAnswer, TotalAnswer};
+use crate::library::{self, filled, filled::WidePicture};
 use crate::exact::{self, MOST_SAMPLES};
 use crate::lent::Lent;
 use crate::pseudorandom::Pseudorandom;
@@ -19,7 +19,27 @@ const SIZES: [u32; 14] = [
     0, 1, 2, 4319, 4320, 4321, 7679, 7680, 7681, 65535, 65537, 65536 + 7680, 0x8000_0001, u32::MAX,
 ];
 
-/// Every picture with its numbers at the ends of their ranges.
+/// The bytes of so many rows; those of numbers far out of range are cut to 32 bits.
+fn bytes_of(width: u16, rows: u16) -> u32 {
+    (usize::from(rows) * exact::block_bytes(usize::from(width))) as u32
+}
+
+/// The bytes of an open picture; then others: next to them, with the same low half, none, the most, and those of the next width.
+fn edge_bytes(width: u16, rows: u16) -> [u32; 7] {
+    let bytes = bytes_of(width, rows);
+    let next_width = bytes_of(width.wrapping_add(1), rows);
+    [
+        bytes,
+        bytes.wrapping_sub(1),
+        bytes.wrapping_add(1),
+        bytes ^ 1 << 16,
+        0,
+        u32::MAX,
+        next_width,
+    ]
+}
+
+/// Every picture with its numbers at the ends of their ranges, with the bytes of its rows and with others.
 fn edge_pictures() -> Vec<Picture> {
     let mut pictures = vec![];
     for place in 0..5usize.pow(5) {
@@ -32,13 +52,15 @@ fn edge_pictures() -> Vec<Picture> {
             height.wrapping_add(1),
             65535,
         ];
-        pictures.push(Picture {
+        let (width, rows) = (WIDTHS[digit(2)], rows[digit(4)]);
+        pictures.extend(edge_bytes(width, rows).map(|bytes| Picture {
             phase: PHASES[digit(0)],
             system: KEPT_SYSTEMS[digit(1)],
-            width: WIDTHS[digit(2)],
+            width,
             height,
-            rows: rows[digit(4)],
-        });
+            rows,
+            bytes,
+        }));
     }
     pictures
 }
@@ -49,12 +71,24 @@ fn any_open(random: &mut Pseudorandom) -> Picture {
     let width = if random.once_in(500) { 7680 } else { narrow };
     let height = random.within(1, 4320);
     let rows = random.within(0, height);
+    let rows = random.pick(&[0, rows, rows, height - 1, height]);
     Picture {
         phase: 1,
         system: random.within(1, 4) as u8,
         width,
         height,
-        rows: random.pick(&[0, rows, rows, height - 1, height]),
+        rows,
+        bytes: bytes_of(width, rows),
+    }
+}
+
+/// With so many rows, and their bytes.
+fn at_row(picture: Picture, rows: u16) -> Picture {
+    let bytes = bytes_of(picture.width, rows);
+    Picture {
+        rows,
+        bytes,
+        ..picture
     }
 }
 
@@ -66,8 +100,9 @@ fn any_picture(random: &mut Pseudorandom) -> Picture {
         width: (bits >> 16) as u16,
         height: (bits >> 32) as u16,
         rows: (bits >> 48) as u16,
+        bytes: random.bits() as u32,
     };
-    match random.below(8) {
+    match random.below(12) {
         0 => any,
         // Any numbers, with a phase that has a meaning.
         1 => Picture {
@@ -83,8 +118,53 @@ fn any_picture(random: &mut Pseudorandom) -> Picture {
             rows: any.rows,
             ..any_open(random)
         },
+        4 => at_row(any_open(random), any.rows),
+        5 => Picture {
+            bytes: any.bytes,
+            ..any_open(random)
+        },
+        6 => with_edge_bytes(any_open(random), random),
         _ => any_open(random),
     }
+}
+
+fn with_edge_bytes(picture: Picture, random: &mut Pseudorandom) -> Picture {
+    Picture {
+        bytes: random.pick(&edge_bytes(picture.width, picture.rows)),
+        ..picture
+    }
+}
+
+/// A picture with the upper half of its second register filled.
+fn wide(picture: Picture, random: &mut Pseudorandom) -> WidePicture {
+    WidePicture(picture, random.bits() as u32)
+}
+
+// ---- total_bytes
+
+fn total(tally: &mut Tally, width: u32, height: u32, random: &mut Pseudorandom) {
+    let upper = random.bits() << 32;
+    let got = unsafe { library::ferghulta_total_bytes(width, height) };
+    let again = unsafe { filled::ferghulta_total_bytes(upper | u64::from(width), upper | u64::from(height)) };
+    let wanted = TotalAnswer::from(exact::total_bytes(width, height));
+    tally.count(wanted.refusal, got == wanted && again == wanted, || {
+        format!("width {width} height {height}: {got:?}, with registers filled {again:?}, wanted {wanted:?}")
+    });
+}
+
+/// Every width with heights at the ends and any, every height with such widths, and any sizes.
+pub fn total_bytes(effort: &Effort, random: &mut Pseudorandom) -> bool {
+    let mut tally = Tally::new("total_bytes");
+    for one in (0..=7700).step_by(effort.stride) {
+        for other in SIZES.into_iter().chain([any_size(random), any_size(random)]) {
+            total(&mut tally, one, other, random);
+            total(&mut tally, other, one, random);
+        }
+    }
+    for _ in 0..5 * effort.cases {
+        total(&mut tally, any_size(random), any_size(random), random);
+    }
+    tally.end()
 }
 
 // ---- new, open, close
@@ -93,7 +173,7 @@ pub fn new(effort: &Effort) -> bool {
     let mut tally = Tally::new("new");
     for _ in 0..1 + effort.cases / 100 {
         let got = unsafe { library::ferghulta_new() };
-        tally.count(0, got == Picture::unopened(0), || format!("{got:?}"));
+        tally.count(0, got == Picture::unopened(0, 0), || format!("{got:?}"));
     }
     tally.end()
 }
@@ -115,7 +195,7 @@ fn open_one(tally: &mut Tally, picture: Picture, arguments: [u32; 3], random: &m
 fn open_filled(picture: Picture, arguments: [u32; 3], random: &mut Pseudorandom) -> PictureAnswer {
     let upper = random.bits() << 32;
     let [system, width, height] = arguments.map(|argument| upper | u64::from(argument));
-    unsafe { filled::ferghulta_open(picture, system, width, height) }
+    unsafe { filled::ferghulta_open(wide(picture, random), system, width, height) }
 }
 
 fn any_size(random: &mut Pseudorandom) -> u32 {
@@ -138,26 +218,28 @@ pub fn open(effort: &Effort, random: &mut Pseudorandom) -> bool {
     for _ in 0..5 * effort.cases {
         let arguments = [any_system(random), any_size(random), any_size(random)];
         open_one(&mut tally, any_picture(random), arguments, random);
-        open_one(&mut tally, Picture::unopened(2), arguments, random);
+        let bytes = random.bits() as u32;
+        open_one(&mut tally, Picture::unopened(2, bytes), arguments, random);
     }
     tally.end()
 }
 
-fn close_one(tally: &mut Tally, picture: Picture) {
+fn close_one(tally: &mut Tally, picture: Picture, random: &mut Pseudorandom) {
     let got = unsafe { library::ferghulta_close(picture) };
+    let again = unsafe { filled::ferghulta_close(wide(picture, random)) };
     let wanted = PictureAnswer::of(picture, exact::close(picture.taken()));
-    tally.count(wanted.refusal, got == wanted, || {
-        format!("{picture:?}: {got:?}, wanted {wanted:?}")
+    tally.count(wanted.refusal, got == wanted && again == wanted, || {
+        format!("{picture:?}: {got:?}, with a register filled {again:?}, wanted {wanted:?}")
     });
 }
 
 pub fn close(effort: &Effort, random: &mut Pseudorandom) -> bool {
     let mut tally = Tally::new("close");
     for picture in edge_pictures() {
-        close_one(&mut tally, picture);
+        close_one(&mut tally, picture, random);
     }
     for _ in 0..10 * effort.cases {
-        close_one(&mut tally, any_picture(random));
+        close_one(&mut tally, any_picture(random), random);
     }
     tally.end()
 }
@@ -188,6 +270,7 @@ fn row_one(
     row_of(tally, picture, &lights, room, random);
 }
 
+/// The call has the register filled; lists of calls make it as it is declared.
 fn row_of(
     tally: &mut Tally,
     picture: Picture,
@@ -198,7 +281,8 @@ fn row_of(
     let count = lights.len();
     let lights = Lent::holding(lights, random);
     let out = Lent::<u8>::blank(room, random);
-    let got = unsafe { library::ferghulta_row(picture, lights.pointer(), count, out.pointer(), room) };
+    let wide = wide(picture, random);
+    let got = unsafe { filled::ferghulta_row(wide, lights.pointer(), count, out.pointer(), room) };
     let (wanted, block) = row_wanted(picture, lights.part(), room);
     let agree = got == wanted && out.holds(&block) && lights.holds(&[]);
     tally.count(wanted.refusal, agree, || {
@@ -241,7 +325,9 @@ fn any_counts(width: u16, random: &mut Pseudorandom) -> (usize, usize) {
 pub fn row(effort: &Effort, random: &mut Pseudorandom) -> bool {
     let mut tally = Tally::new("row");
     for picture in edge_pictures().into_iter().step_by(effort.stride) {
-        for _ in 0..8 {
+        // One that is not open is refused whatever the row is.
+        let is_open = matches!(picture.taken(), exact::Picture::Open(_));
+        for _ in 0..if is_open { 16 } else { 1 } {
             let (count, room) = any_counts(picture.width, random);
             row_one(&mut tally, picture, count, room, random);
         }

@@ -63,6 +63,12 @@ static void expect_codes(uint32_t system, ferghulta_words words, ferghulta_codes
     expect("B'", answer.codes.b, wanted.b);
 }
 
+static void expect_total(uint32_t width, uint32_t height, uint32_t bytes, uint32_t refusal) {
+    ferghulta_total_answer answer = ferghulta_total_bytes(width, height);
+    expect("total refused", answer.refusal, refusal);
+    expect("total", answer.bytes, bytes);
+}
+
 static void expect_level(ferghulta_level_answer answer, int32_t millivolts, uint32_t remainder) {
     expect("level accepted", answer.refusal, 0);
     expect("millivolts", answer.level.millivolts == millivolts, 1);
@@ -146,6 +152,17 @@ static void levels(void) {
     expect("level in no system", ferghulta_level_of_difference(0, 0).refusal, FERGHULTA_REFUSED_SYSTEM);
 }
 
+/* Width 0 is refused before height 0. */
+static void totals(void) {
+    expect_total(1, 1, 15, 0);
+    expect_total(1920, 1080, 12451320, 0);
+    expect_total(WIDEST, FERGHULTA_MOST_ROWS, 199104480, 0);
+    expect_total(0, 0, 0, FERGHULTA_REFUSED_WIDTH);
+    expect_total(7681, 1, 0, FERGHULTA_REFUSED_WIDTH);
+    expect_total(1, 0, 0, FERGHULTA_REFUSED_HEIGHT);
+    expect_total(WIDEST, 4321, 0, FERGHULTA_REFUSED_HEIGHT);
+}
+
 static void widths(void) {
     static uint16_t lights[FERGHULTA_ROW_CODES(WIDEST)];
     static uint8_t block[FERGHULTA_BLOCK_BYTES(WIDEST)];
@@ -158,6 +175,26 @@ static void widths(void) {
     expect("46089 bytes", answer.refusal, 0);
     expect("rows accepted", answer.picture.rows, 1);
     expect("close", ferghulta_close(answer.picture).picture.phase, FERGHULTA_CLOSED);
+}
+
+/* Of two pictures, one after the other, with refused calls between. */
+static void bytes_of_pictures(void) {
+    static const uint16_t lights[6] = {0};
+    uint8_t block[FERGHULTA_BLOCK_BYTES(2)];
+    ferghulta_picture picture = ferghulta_new();
+    expect("bytes of a fresh picture", picture.bytes, 0);
+    expect("open", ferghulta_open_of(&picture, 1, 2, 2), 0);
+    expect("row", ferghulta_row_of(&picture, lights, 6, block, 21), 0);
+    expect("bytes of a row", picture.bytes, 21);
+    expect("row without room", ferghulta_row_of(&picture, lights, 6, block, 20), FERGHULTA_REFUSED_OUTPUT);
+    expect("bytes of a refused row", picture.bytes, 21);
+    expect("last row", ferghulta_row_of(&picture, lights, 6, block, 21), 0);
+    expect("close", ferghulta_close_of(&picture), 0);
+    expect("bytes of a closed picture", picture.bytes, ferghulta_total_bytes(2, 2).bytes);
+    expect("open with width 0", ferghulta_open_of(&picture, 1, 0, 1), FERGHULTA_REFUSED_WIDTH);
+    expect("bytes after a refused open", picture.bytes, 42);
+    expect("open again", ferghulta_open_of(&picture, 4, 1, 1), 0);
+    expect("bytes after open", picture.bytes, 0);
 }
 
 /* The one-sample block of docs/CONVERSION.md. */
@@ -173,7 +210,7 @@ static void listing(void) {
     for (int j = 0; j < 4; j++) expect("code read", codes[j], j < 3 ? 235 : 9);
 }
 
-/* Rows that are sent last first, each with a copy of the picture whose `rows` is set, are those that are sent in turn. */
+/* Rows that are sent last first, each with a copy of the picture at its number, are those that are sent in turn. */
 static void rows_in_any_order(void) {
     enum { ROWS = 3 };
     static const uint16_t lights[ROWS][3] = {{0, 32768, 65535}, {65535, 0, 0}, {33, 34, 11796}};
@@ -184,16 +221,18 @@ static void rows_in_any_order(void) {
     for (int i = 0; i < ROWS; i++)
         expect("row in place", ferghulta_row_of(&picture, lights[i], 3, in_turn[i], sizeof in_turn[i]), 0);
     for (int i = ROWS; i-- > 0;) {
-        ferghulta_picture copy = opened;
-        copy.rows = (uint16_t)i;
+        const ferghulta_picture copy = ferghulta_at_row(opened, (uint16_t)i);
         expect("row of a copy", ferghulta_row(copy, lights[i], 3, by_copies[i], sizeof by_copies[i]).refusal, 0);
     }
     expect("the same blocks", memcmp(in_turn, by_copies, sizeof in_turn) == 0, 1);
     ferghulta_picture joined = opened;
     expect("close before the rows", ferghulta_close_of(&joined), FERGHULTA_REFUSED_ROWS_MISSING);
     joined.rows = ROWS;
+    expect("close with rows alone", ferghulta_close_of(&joined), FERGHULTA_REFUSED_NOT_OPEN);
+    joined = ferghulta_at_row(joined, ROWS);
     expect("close after the rows", ferghulta_close_of(&joined), 0);
     expect("closed in place", joined.phase, FERGHULTA_CLOSED);
+    expect("bytes of copies", joined.bytes, picture.bytes);
 }
 
 /* Rows of 3 bytes, of which each has its active line: by total line, and back. */
@@ -243,7 +282,9 @@ int main(void) {
     rules();
     nominal_calls();
     levels();
+    totals();
     widths();
+    bytes_of_pictures();
     listing();
     rows_in_any_order();
     segments();

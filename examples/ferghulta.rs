@@ -4,8 +4,8 @@
 
 use core::fmt;
 
-/// The version of the header that this file follows, as one number: 30100 is 3.1.0.
-pub const VERSION: u32 = 30100;
+/// The version of the header that this file follows, as one number: 40000 is 4.0.0.
+pub const VERSION: u32 = 40000;
 
 /// The version of the archive that the program is linked with.
 #[must_use]
@@ -201,6 +201,7 @@ unsafe extern "C" {
     safe fn ferghulta_codes_of_words(system: System, words: Words) -> Answer<Decoded>;
     safe fn ferghulta_level_of_code(system: System, code: u16) -> Answer<Level>;
     safe fn ferghulta_level_of_difference(system: System, word: u16) -> Answer<Level>;
+    safe fn ferghulta_total_bytes(width: u32, height: u32) -> Answer<u32>;
     safe fn ferghulta_new() -> Kept;
     safe fn ferghulta_open(picture: Kept, system: System, width: u32, height: u32) -> Answer<Kept>;
     safe fn ferghulta_close(picture: Kept) -> Answer<Kept>;
@@ -296,9 +297,15 @@ struct Kept {
     width: u16,
     height: u16,
     rows: u16,
+    bytes: u32,
 }
 
 impl Picture {
+    /// The bytes that the blocks of a picture of this size will take.
+    pub fn total_bytes(width: u32, height: u32) -> Result<u32, Refusal> {
+        ferghulta_total_bytes(width, height).result()
+    }
+
     /// A fresh picture.
     #[allow(clippy::new_without_default)]
     pub fn new() -> Picture {
@@ -326,10 +333,17 @@ impl Picture {
         self.0.rows
     }
 
-    /// A copy whose next row is number `rows`, so that several threads may send the rows of one picture; with the height
-    /// as `rows` it can be closed. That every row was sent is then for the caller to know.
+    /// The bytes of the blocks accepted since the last accepted open, 0 before any; a closed picture keeps them.
+    #[must_use]
+    pub fn bytes(&self) -> u32 {
+        self.0.bytes
+    }
+
+    /// A copy of an open picture whose next row is number `rows`, so that several threads may send its rows; with the
+    /// height as `rows` it can be closed. That every row was sent is then for the caller to know.
     pub fn with_rows(&self, rows: u16) -> Picture {
-        Picture(Kept { rows, ..self.0 })
+        let bytes = u32::from(rows) * (9 + 6 * u32::from(self.0.width));
+        Picture(Kept { rows, bytes, ..self.0 })
     }
 
     fn become_next(&mut self, answer: Answer<Kept>) -> Result<(), Refusal> {

@@ -10,6 +10,7 @@ static uint8_t bytes[FERGHULTA_BLOCK_BYTES(1)];
 static uint8_t rows[2][FERGHULTA_SEGMENTED_LINES];
 
 ferghulta_picture sent(ferghulta_picture picture);
+ferghulta_picture at_end(ferghulta_picture picture);
 uint32_t sent_of(ferghulta_picture *picture);
 uint32_t block_read(void);
 uint32_t segmented(void);
@@ -19,6 +20,15 @@ ferghulta_picture sent(ferghulta_picture picture) {
     ferghulta_row(picture, words, 3, bytes, sizeof bytes); /* the next picture is dropped */
 #else
     picture = ferghulta_row(picture, words, 3, bytes, sizeof bytes).picture;
+#endif
+    return picture;
+}
+
+ferghulta_picture at_end(ferghulta_picture picture) {
+#if MISUSE == 7
+    ferghulta_at_row(picture, picture.height); /* the copy is dropped */
+#else
+    picture = ferghulta_at_row(picture, picture.height);
 #endif
     return picture;
 }

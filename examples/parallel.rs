@@ -34,9 +34,11 @@ fn main() -> Result<(), Refusal> {
             });
         }
     });
-    opened.with_rows(HEIGHT as u16).close()?;
+    let mut joined = opened.with_rows(HEIGHT as u16);
+    joined.close()?;
 
     assert!(in_turn == by_threads, "the blocks differ");
+    assert_eq!(joined.bytes(), picture.bytes(), "the bytes differ");
     println!("{HEIGHT} rows sent by {THREADS} threads: the same blocks as in turn");
     Ok(())
 }

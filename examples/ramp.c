@@ -51,7 +51,7 @@ static int worst_distance(uint32_t system, int worst) {
 
 /* The library keeps nothing between calls: the picture is a value of ours, which the calls that end in `_of` change in
  * place where they are accepted. */
-static void send_and_read(uint32_t system, const char *name) {
+static void send_and_read(uint32_t system, const char *name, uint32_t foretold) {
     unsigned blocks = 0, clipped = 0;
     int worst = 0;
 
@@ -70,7 +70,8 @@ static void send_and_read(uint32_t system, const char *name) {
     const unsigned rows = picture.rows;
     must_accept(ferghulta_close_of(&picture));
 
-    printf("%-16s %9u %11u %14d %7u\n", name, rows, blocks, worst, clipped);
+    const char *bytes = picture.bytes == foretold ? "as foretold" : "not as foretold";
+    printf("%-16s %9u %11u %14d %7u %15s\n", name, rows, blocks, worst, clipped, bytes);
 }
 
 /* The blocks of 1080 rows in segmented order, and back. They move whole, so the row number in a block tells which row
@@ -148,10 +149,13 @@ static void refusals(void) {
 
 int main(void) {
     static const char *const names[] = {"BT.709 8 bits", "BT.709 10 bits", "BT.2020 10 bits", "BT.2020 12 bits"};
-    printf("pictures of %d x %d; distance in codes\n\n", WIDTH, HEIGHT);
-    printf("%-16s %9s %11s %14s %7s\n", "system", "rows sent", "blocks read", "worst distance", "clipped");
+    const ferghulta_total_answer total = ferghulta_total_bytes(WIDTH, HEIGHT);
+    must_accept(total.refusal);
+    printf("pictures of %d x %d, %u bytes each; distance in codes\n\n", WIDTH, HEIGHT, (unsigned)total.bytes);
+    printf("%-16s %9s %11s", "system", "rows sent", "blocks read");
+    printf(" %14s %7s %15s\n", "worst distance", "clipped", "bytes");
     for (uint32_t system = FERGHULTA_BT709_8; system <= FERGHULTA_BT2020_12; system++)
-        send_and_read(system, names[system - 1]);
+        send_and_read(system, names[system - 1], total.bytes);
     segmented_order();
     printf("\nwords and levels of super-whites, BT.709 8 bits\n");
     lamps();

@@ -34,7 +34,7 @@ fn worst_distance(system: System, lights: &[u16], codes: &[u16]) -> u16 {
     lights.iter().zip(codes).map(distance).max().unwrap_or(0)
 }
 
-fn send_and_read(system: System, name: &str) -> Result<(), Refusal> {
+fn send_and_read(system: System, name: &str, foretold: u32) -> Result<(), Refusal> {
     let mut block = [0; BYTES];
     let mut codes = [0; LIGHTS];
     let (mut blocks, mut clipped, mut worst) = (0, 0, 0);
@@ -52,7 +52,8 @@ fn send_and_read(system: System, name: &str) -> Result<(), Refusal> {
     let rows = picture.rows();
     picture.close()?;
 
-    println!("{name:<16} {rows:>9} {blocks:>11} {worst:>14} {clipped:>7}");
+    let bytes = if picture.bytes() == foretold { "as foretold" } else { "not as foretold" };
+    println!("{name:<16} {rows:>9} {blocks:>11} {worst:>14} {clipped:>7} {bytes:>15}");
     Ok(())
 }
 
@@ -138,10 +139,12 @@ fn refusals() -> Result<(), Refusal> {
 fn main() -> Result<(), Refusal> {
     assert_eq!(version(), VERSION, "the archive is of another version than examples/ferghulta.rs");
     let names = ["BT.709 8 bits", "BT.709 10 bits", "BT.2020 10 bits", "BT.2020 12 bits"];
-    println!("pictures of {WIDTH} x {HEIGHT}; distance in codes\n");
-    println!("{:<16} {:>9} {:>11} {:>14} {:>7}", "system", "rows sent", "blocks read", "worst distance", "clipped");
+    let total = Picture::total_bytes(WIDTH as u32, HEIGHT as u32)?;
+    println!("pictures of {WIDTH} x {HEIGHT}, {total} bytes each; distance in codes\n");
+    print!("{:<16} {:>9} {:>11}", "system", "rows sent", "blocks read");
+    println!(" {:>14} {:>7} {:>15}", "worst distance", "clipped", "bytes");
     for (system, name) in System::ALL.into_iter().zip(names) {
-        send_and_read(system, name)?;
+        send_and_read(system, name, total)?;
     }
     segmented_order()?;
     println!("\nwords and levels of super-whites, BT.709 8 bits");

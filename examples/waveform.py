@@ -16,7 +16,10 @@ WIDTH = 3 * PART
 
 
 class Picture(Structure):
-    _fields_ = [("phase", c_uint8), ("system", c_uint8), ("width", c_uint16), ("height", c_uint16), ("rows", c_uint16)]
+    _fields_ = [
+        ("phase", c_uint8), ("system", c_uint8), ("width", c_uint16), ("height", c_uint16), ("rows", c_uint16),
+        ("bytes", c_uint32),
+    ]  # fmt: skip
 
 
 class PictureAnswer(Structure):

@@ -26,12 +26,12 @@
 #include <stddef.h>
 #include <stdint.h>
 
-#define FERGHULTA_VERSION_MAJOR 3
-#define FERGHULTA_VERSION_MINOR 1
+#define FERGHULTA_VERSION_MAJOR 4
+#define FERGHULTA_VERSION_MINOR 0
 #define FERGHULTA_VERSION_PATCH 0
-#define FERGHULTA_VERSION "3.1.0"
+#define FERGHULTA_VERSION "4.0.0"
 
-/* The version as one number to compare, in #if too: 30100 is 3.1.0. CHANGELOG.md says what a version promises. */
+/* The version as one number to compare, in #if too: 40000 is 4.0.0. CHANGELOG.md says what a version promises. */
 #define FERGHULTA_VERSION_NUMBER                                                                                       \
     (10000 * FERGHULTA_VERSION_MAJOR + 100 * FERGHULTA_VERSION_MINOR + FERGHULTA_VERSION_PATCH)
 
@@ -49,9 +49,9 @@
 #define FERGHULTA_NONNULL
 #endif
 #ifdef __cplusplus
-#define FERGHULTA_SIZE(n) static_cast<size_t>(n)
+#define FERGHULTA_AS(type, n) static_cast<type>(n)
 #else
-#define FERGHULTA_SIZE(n) ((size_t)(n))
+#define FERGHULTA_AS(type, n) ((type)(n))
 #endif
 
 #ifdef __cplusplus
@@ -225,8 +225,8 @@ FERGHULTA_MUST_USE ferghulta_level_answer ferghulta_level_of_difference(uint32_t
 #define FERGHULTA_MOST_ROWS 4320
 
 /* The bytes of the block of a row of `width` samples, and how many lights or codes such a row has. */
-#define FERGHULTA_BLOCK_BYTES(width) (9 + 6 * FERGHULTA_SIZE(width))
-#define FERGHULTA_ROW_CODES(width) (3 * FERGHULTA_SIZE(width))
+#define FERGHULTA_BLOCK_BYTES(width) (9 + 6 * FERGHULTA_AS(size_t, width))
+#define FERGHULTA_ROW_CODES(width) (3 * FERGHULTA_AS(size_t, width))
 
 typedef struct ferghulta_block_answer {
     uint32_t refusal;
@@ -245,20 +245,30 @@ ferghulta_read_block(const uint8_t *__restrict bytes, size_t length, uint16_t *_
 
 /* ---- Pictures. */
 
+typedef struct ferghulta_total_answer {
+    uint32_t refusal;
+    uint32_t bytes;
+} ferghulta_total_answer;
+
+/* The bytes that the blocks of a picture will take, height * (9 + 6 * width): at most 199104480. Refused: 2, 3. */
+FERGHULTA_MUST_USE ferghulta_total_answer ferghulta_total_bytes(uint32_t width, uint32_t height);
+
 enum ferghulta_phase { FERGHULTA_FRESH = 0, FERGHULTA_OPEN = 1, FERGHULTA_CLOSED = 2 };
 
-/* A picture in eight bytes, which the caller keeps: a call is given it and answers with the picture that the next call
- * is to be given. Read its fields freely, and let the calls change them, but for `rows` (below). While it is not open
- * they are 0 but for the phase, so all zero is a fresh picture; of a picture that is not open the calls read the phase
- * alone. A value that no call gives (another phase, or open with a number out of its range or with more rows than its
- * height) is not open: it is taken as fresh.
+/* A picture in twelve bytes, which the caller keeps: a call is given it and answers with the picture that the next call
+ * is to be given. Read its fields freely, and let the calls change them, but for rows in parallel (below). `bytes` are
+ * rows * (9 + 6 * width) while it is open, and stay as they are when it is closed, until the next accepted open. While
+ * it is not open the other fields are 0 but for the phase, and all zero is a fresh picture; of a picture that is not
+ * open the calls read the phase alone. A value that no call gives (another phase, or open with a number out of its
+ * range, with more rows than its height or with other bytes than its rows have) is not open: it is taken as fresh.
  *
- * Rows in parallel: a picture is a value, so each thread may have its own copy of an open one, set `rows` to the number
- * of the row that it sends next, and send it. Who joins the threads sets `rows` to the height and closes; that every
- * row was sent is then for the caller to know. */
+ * Rows in parallel: a picture is a value, so each thread may have its own copy of an open one, set by ferghulta_at_row
+ * to the number of the row that it sends next (with `rows` set alone it would not be open), and send it. Who joins the
+ * threads sets the picture to the height and closes; that every row was sent is then for the caller to know. */
 typedef struct ferghulta_picture {
     uint8_t phase, system;
     uint16_t width, height, rows; /* rows: how many were accepted since open */
+    uint32_t bytes;               /* of the blocks accepted since the last accepted open */
 } ferghulta_picture;
 
 typedef struct ferghulta_picture_answer {
@@ -269,7 +279,7 @@ typedef struct ferghulta_picture_answer {
 /* A fresh picture. */
 FERGHULTA_MUST_USE ferghulta_picture ferghulta_new(void);
 
-/* Opens a fresh or closed picture; no row is accepted yet. Refused: 21, then 1, 2, 3. */
+/* Opens a fresh or closed picture; no row is accepted yet, and its bytes are 0. Refused: 21, then 1, 2, 3. */
 FERGHULTA_MUST_USE ferghulta_picture_answer
 ferghulta_open(ferghulta_picture picture, uint32_t system, uint32_t width, uint32_t height);
 
@@ -280,10 +290,19 @@ FERGHULTA_MUST_USE FERGHULTA_NONNULL ferghulta_picture_answer
 ferghulta_row(ferghulta_picture picture, const uint16_t *__restrict lights, size_t count, uint8_t *__restrict out,
               size_t room);
 
-/* Closes an open picture whose every row is accepted. Refused: 22, then 24. */
+/* Closes an open picture whose every row is accepted, and keeps its bytes. Refused: 22, then 24. */
 FERGHULTA_MUST_USE ferghulta_picture_answer ferghulta_close(ferghulta_picture picture);
 
-/* ---- The same three on a picture in place, which is changed where the call is accepted. They return the refusal. */
+/* The copy of an open picture whose next row is number `rows`, with the bytes of as many rows. At the height it can be
+ * closed. */
+FERGHULTA_MUST_USE static __inline ferghulta_picture ferghulta_at_row(ferghulta_picture picture, uint16_t rows) {
+    picture.rows = rows;
+    picture.bytes = FERGHULTA_AS(uint32_t, rows * FERGHULTA_BLOCK_BYTES(picture.width));
+    return picture;
+}
+
+/* ---- Open, row and close on a picture in place, which is changed where the call is accepted. They return the
+ * refusal. */
 
 FERGHULTA_MUST_USE FERGHULTA_NONNULL static __inline uint32_t
 ferghulta_open_of(ferghulta_picture *picture, uint32_t system, uint32_t width, uint32_t height) {
@@ -340,8 +359,9 @@ FERGHULTA_LAYOUT(ferghulta_signals_answer, 16);  /* 4 + 12 */
 FERGHULTA_LAYOUT(ferghulta_decoded_answer, 16);  /* 4 + 4 + 6 + 2 */
 FERGHULTA_LAYOUT(ferghulta_level_answer, 12);    /* 4 + 8 */
 FERGHULTA_LAYOUT(ferghulta_block_answer, 16);    /* 4 + 4 + 4 + 4 */
-FERGHULTA_LAYOUT(ferghulta_picture, 8);          /* 2 + 6 */
-FERGHULTA_LAYOUT(ferghulta_picture_answer, 12);  /* 4 + 8 */
+FERGHULTA_LAYOUT(ferghulta_total_answer, 8);     /* 4 + 4 */
+FERGHULTA_LAYOUT(ferghulta_picture, 12);         /* 2 + 6 + 4 */
+FERGHULTA_LAYOUT(ferghulta_picture_answer, 16);  /* 4 + 12 */
 #undef FERGHULTA_LAYOUT
 
 #endif

@@ -1,7 +1,7 @@
 """Document 01's picture and row book in plain Python: whole numbers only, and nothing shared with the crates.
 
 A book is kept from the calls' arguments alone. Each call answers the refusal's number, or 0 where it is accepted.
-Running this file checks it against what the document says of its calls.
+Running this file checks it against what the papers say of its calls.
 """
 
 from itertools import product
@@ -50,21 +50,26 @@ class Book:
     def __init__(self):
         self.state = FRESH
         self.entries = []
+        self.entries_before_open = 0
 
     @property
     def is_open(self):
         return isinstance(self.state, Open)
+
+    @property
+    def bytes(self):
+        """The summed lengths of the blocks accepted since the last accepted open, 0 before any."""
+        return sum(block_length(entry.width) for entry in self.entries[self.entries_before_open :])
 
     def open(self, system, width, height):
         if self.is_open:
             return REFUSED_WHILE_OPEN
         if system not in SYSTEMS:
             return REFUSED_SYSTEM
-        if not 1 <= width <= WIDEST:
-            return REFUSED_WIDTH
-        if not 1 <= height <= TALLEST:
-            return REFUSED_HEIGHT
+        if refusal := refusal_of_size(width, height):
+            return refusal
         self.state = Open(system, width, height, 0)
+        self.entries_before_open = len(self.entries)
         return ACCEPTED
 
     def row(self, lights, room):
@@ -91,8 +96,23 @@ class Book:
         return ACCEPTED
 
 
+def refusal_of_size(width, height):
+    if not 1 <= width <= WIDEST:
+        return REFUSED_WIDTH
+    return ACCEPTED if 1 <= height <= TALLEST else REFUSED_HEIGHT
+
+
 def block_length(width):
     return 9 + 6 * width
+
+
+# Request 2026-06 asks for a book's bytes, and for the total before a take.
+
+
+def total_bytes(width, height):
+    """The refusal, 'with 2 and 3 as in open', and height·(9 + 6·width), or 0 where it is refused."""
+    refusal = refusal_of_size(width, height)
+    return refusal, 0 if refusal else height * (9 + 6 * width)
 
 
 def codes_of_entry(entry):
@@ -162,6 +182,65 @@ def check_numbers():
     assert [entry.number for entry in book.entries] == [0, 1, 2, 0, 1]
 
 
+def check_totals():
+    assert total_bytes(1, 1) == (ACCEPTED, 15)
+    assert total_bytes(WIDEST, TALLEST) == (ACCEPTED, 199104480)
+    # 2 before 3.
+    for width, height in product((0, WIDEST + 1), (0, 1, TALLEST, TALLEST + 1)):
+        assert total_bytes(width, height) == (REFUSED_WIDTH, 0)
+    for width, height in product((1, WIDEST), (0, TALLEST + 1)):
+        assert total_bytes(width, height) == (REFUSED_HEIGHT, 0)
+
+
+NARROW, WIDE = [0] * 3, [0] * 6
+
+
+def check_figures():
+    """Two pictures, with refused calls between the others, and the bytes after each."""
+    book = Book()
+    for call, given, refusal, after in (
+        (book.row, (WIDE, 21), REFUSED_NOT_OPEN, 0),
+        (book.open, (1, 2, 0), REFUSED_HEIGHT, 0),
+        (book.open, (1, 2, 2), ACCEPTED, 0),
+        (book.row, (WIDE, 20), REFUSED_OUTPUT, 0),
+        (book.row, (WIDE, 99), ACCEPTED, 21),
+        (book.close, (), REFUSED_ROWS_MISSING, 21),
+        (book.open, (1, 1, 1), REFUSED_WHILE_OPEN, 21),
+        (book.row, (NARROW, 21), REFUSED_LIGHTS, 21),
+        (book.row, (WIDE, 21), ACCEPTED, 42),
+        (book.row, (WIDE, 21), REFUSED_ALL_ROWS, 42),
+        (book.close, (), ACCEPTED, 42),
+        (book.row, (WIDE, 21), REFUSED_NOT_OPEN, 42),
+        (book.open, (0, 1, 1), REFUSED_SYSTEM, 42),
+        (book.open, (4, 1, 1), ACCEPTED, 0),
+        (book.row, (NARROW, 15), ACCEPTED, 15),
+        (book.close, (), ACCEPTED, 15),
+    ):
+        assert (call(*given), book.bytes) == (refusal, after)
+    assert total_bytes(2, 2) == (ACCEPTED, 42) and total_bytes(1, 1) == (ACCEPTED, 15)
+
+
+def check_bytes(calls):
+    """After each call of a list the bytes are those of the blocks since the last accepted open, at an accepted close the total."""
+    book, blocks, total = Book(), [], None
+    for call, *given in calls:
+        accepted = getattr(book, call)(*given) == ACCEPTED
+        if accepted and call == "open":
+            blocks, total = [], total_bytes(*given[1:])
+        if accepted and call == "row":
+            blocks.append(block_of_entry(book.entries[-1]))
+        assert book.bytes == sum(map(len, blocks))
+        assert not (accepted and call == "close") or total == (ACCEPTED, book.bytes)
+
+
+def check_lists():
+    """Every list of five calls of these, among them some that are always refused."""
+    opens = ("open", 1, 1, 1), ("open", 4, 2, 2), ("open", 1, 0, 1)
+    rows = ("row", NARROW, 15), ("row", WIDE, 21), ("row", NARROW, 14)
+    for calls in product((*opens, *rows, ("close",)), repeat=5):
+        check_bytes(calls)
+
+
 def edge_lights(system):
     """The lights 33, 1187 and 32768, and samples of the first and the last lights of the codes at the ends of nominal."""
     low, high = nominal(system)
@@ -191,6 +270,9 @@ def check():
     check_sizes()
     check_order()
     check_numbers()
+    check_totals()
+    check_figures()
+    check_lists()
     check_blocks()
 
 

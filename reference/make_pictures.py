@@ -5,9 +5,10 @@ All numbers are unsigned, low byte first. The same bytes come at every run.
 - lights: lights, 2 bytes each. The lights of a row are a part of them.
 - calls: for each call what it is (0 a fresh picture, with which a list begins; 1 open, 2 row, 3 close), the refusal or 0, the rows
   that the book has accepted of the open picture after the call or 0, the system and the samples of the block that is due or 0
-  (2 bytes each), the clipped total of reading it (4 bytes), and what the call is given (4 bytes each): an open the system, width
-  and height, a row the place of its first light, how many lights, and the length of its buffer. Then, where a block is due, its
-  bytes, and for each place the light's code and the code that reading gives (2 bytes each).
+  (2 bytes each), the book's bytes after the call, the clipped total of reading the block, and what the call is given (4 bytes
+  each): an open the system, width and height, a row the place of its first light, how many lights, and the length of its buffer.
+  Then, where a block is due, its bytes, and for each place the light's code and the code that reading gives (2 bytes each).
+- totals: for each the refusal or 0 (2 bytes), the width and height that are given, and the total or 0 (4 bytes each).
 """
 
 from itertools import product
@@ -17,7 +18,7 @@ from struct import pack
 import book
 import exact
 import rows
-from book import ACCEPTED, TALLEST, Book, block_length, block_of_entry, codes_of_entry
+from book import ACCEPTED, TALLEST, Book, block_length, block_of_entry, codes_of_entry, total_bytes
 from exact import FULL_LIGHT, SYSTEMS, spans
 from pseudorandom import Random
 from rows import WIDEST, read_block
@@ -31,9 +32,12 @@ LIGHTS = 3 * WIDEST + 3
 BUFFER = 46100
 LISTS = 20
 CALLS_PER_LIST = 160
+ANY_TOTALS = 400
 
 WIDTHS = (1, 2, 3)
 HEIGHTS = (1, 2, 3, 6)
+END_WIDTHS = (0, 1, WIDEST, WIDEST + 1)
+END_HEIGHTS = (0, 1, TALLEST, TALLEST + 1)
 # A number cut to 8 or 16 bits would pass for one in the range.
 NO_SYSTEMS = (0, 5, 255, 256 + 1, 65536 + 4, 2**32 - 1)
 NO_WIDTHS = (0, WIDEST + 1, 65535, 65536, 65536 + 1, 65536 + WIDEST, 2**32 - 1)
@@ -59,7 +63,7 @@ class Lists:
     def add(self, call, refusal, given, entry=None):
         count = self.book.state.count if self.book.is_open else 0
         system, samples, clipped, due = due_of_entry(entry) if entry else NO_BLOCK
-        self.records.append(pack("<5H4I", call, refusal, count, system, samples, clipped, *given) + due)
+        self.records.append(pack("<5H5I", call, refusal, count, system, samples, self.book.bytes, clipped, *given) + due)
 
     def new(self):
         self.book = Book()
@@ -110,7 +114,7 @@ def corners(lists):
 def sizes(lists, begin):
     """Opens at the ends of the ranges and beyond them, each of a picture that begin leaves."""
     begin()
-    ends = product((*SYSTEMS, *NO_SYSTEMS), (0, 1, WIDEST, WIDEST + 1), (0, 1, TALLEST, TALLEST + 1))
+    ends = product((*SYSTEMS, *NO_SYSTEMS), END_WIDTHS, END_HEIGHTS)
     for given in (*ends, *product((2,), (1, WIDEST, *NO_WIDTHS), (1, TALLEST, *NO_HEIGHTS))):
         lists.open(*given)
         if lists.book.is_open:
@@ -146,8 +150,8 @@ def wide(lists, random):
 
 
 def tall(lists, random, system):
-    """A picture of the greatest height, with a call now and then that is refused, and closes at the last rows."""
-    width = 1
+    """A picture of the greatest height, whose bytes need more than 16 bits, with a refused call now and then and at the last rows."""
+    width = 2
     count, room = 3 * width, block_length(width)
     lists.open(system, width, TALLEST)
     for row in range(TALLEST):
@@ -216,6 +220,28 @@ def make(random):
     return lists
 
 
+def any_size(random):
+    """A width and a height, mostly in their ranges; else one of them is any number."""
+    width, height = 1 + random.below(WIDEST), 1 + random.below(TALLEST)
+    kind, number = random.below(8), random.word()
+    return (number, height) if kind == 0 else (width, number) if kind == 1 else (width, height)
+
+
+def sizes_of_totals(random):
+    """The ends of the ranges and beyond, numbers that a cut to 16 bits would let pass, some sizes and their exchange, and any."""
+    yield from product(END_WIDTHS, END_HEIGHTS)
+    yield from product((1, WIDEST, *NO_WIDTHS), (1, TALLEST, *NO_HEIGHTS))
+    # Totals on both sides of 2^16, among them 65535 and 65538, and pictures as they are made.
+    for width, height in ((2, 3), (7, 1285), (15, 662), (TALLEST, TALLEST + 1), (1280, 720), (1920, 1080), (3840, 2160)):
+        yield from ((width, height), (height, width))
+    yield from (any_size(random) for _ in range(ANY_TOTALS))
+
+
+def record_of_total(width, height):
+    refusal, total = total_bytes(width, height)
+    return pack("<H3I", refusal, width, height, total)
+
+
 def main():
     exact.check()
     rows.check()
@@ -224,6 +250,7 @@ def main():
     lists = make(Random(4320_46089))
     (DATA / "lights").write_bytes(pack(f"<{LIGHTS}H", *lists.lights))
     (DATA / "calls").write_bytes(b"".join(lists.records))
+    (DATA / "totals").write_bytes(b"".join(record_of_total(*size) for size in sizes_of_totals(Random(199104480))))
 
 
 if __name__ == "__main__":

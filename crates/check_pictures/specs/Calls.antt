@@ -25,10 +25,11 @@ callAt bs i = record {
   rows = u16At bs (i + 4);
   system = u16At bs (i + 6);
   samples = u16At bs (i + 8);
-  clipped = u32At bs (i + 10);
-  first = u32At bs (i + 14);
-  second = u32At bs (i + 18);
-  third = u32At bs (i + 22);
+  bytes = u32At bs (i + 10);
+  clipped = u32At bs (i + 14);
+  first = u32At bs (i + 18);
+  second = u32At bs (i + 22);
+  third = u32At bs (i + 26);
 }
 
 -- a call of this kind in which this refusal is due, or for 0 one that is accepted
@@ -63,7 +64,7 @@ abbrev pub callAnswer : Call → Picture → List ℕ → List ℕ → Outcome P
 callAnswer c p lights lent =
     cond (eqb (c .kind) 1) (opening p (c .first) (c .second) (c .third))
     (cond (eqb (c .kind) 2) (rowAnswer c p lights lent)
-    (cond (eqb (c .kind) 3) (closing p) (accepted (at Fresh))))
+    (cond (eqb (c .kind) 3) (closing p) (accepted (at Fresh 0))))
 
 abbrev pub bufferOf : Call → Picture → List ℕ → List ℕ → List ℕ
 bufferOf c p lights lent = cond (eqb (c .kind) 2) (rowBuffer c p lights lent) lent
@@ -123,9 +124,9 @@ after (refused n) p = p
 abbrev pub expected : List ℕ → List ℕ → List ℕ
 expected block due = cond (leb (length block) (length due)) (block ++ drop (length block) due) due
 
--- the answer and the rows accepted of the picture after it are the book's
+-- the answer, and the rows accepted and the bytes of the picture after it are the book's
 abbrev pub answered : Call → Outcome Picture → Picture → Bool
-answered c answer p = agrees answer c && eqb (rowsOf (p .phase)) (c .rows)
+answered c answer p = agrees answer c && eqb (rowsOf (p .phase)) (c .rows) && eqb (p .bytes) (c .bytes)
 
 -- a call is met: in its answer and the picture after it, in the buffer as far as it was lent, and in the reading of its block
 unfoldable pub met : Call → Outcome Picture → Picture → List ℕ → List ℕ → List ℕ → Bool
@@ -142,7 +143,7 @@ abbrev pub state : Picture → List ℕ → List ℕ → Tally → State
 state p lent due t = record { picture = p; lent = lent; due = due; tally = t }
 
 abbrev pub begun : List ℕ → List ℕ → State
-begun lent due = state (at Fresh) lent due none
+begun lent due = state (at Fresh 0) lent due none
 
 -- the state after a call, with the bytes behind its numbers: it counts where its kind and refusal are the ones in question
 unfoldable pub afterCall : Call → List ℕ → List ℕ → ℕ → ℕ → State → State
@@ -155,7 +156,7 @@ afterCall c bs lights kind refusal s =
 
 -- the bytes of a call: its numbers, the block that is due, and the codes that are due
 abbrev pub sizeOf : Call → ℕ
-sizeOf c = 26 + blockLength c + 12 * c .samples
+sizeOf c = 30 + blockLength c + 12 * c .samples
 
 -- the bytes of the call at a place, and whether they are there
 abbrev pub sizeAt : List ℕ → ℕ → ℕ
@@ -166,7 +167,7 @@ completeAt bs at = leb (at + sizeAt bs at) (length bs)
 
 -- the state after the call at a place
 abbrev pub stateAfter : List ℕ → List ℕ → ℕ → ℕ → ℕ → State → State
-stateAfter bs lights kind refusal at s = afterCall (callAt bs at) (take (sizeAt bs at - 26) (drop (at + 26) bs)) lights kind refusal s
+stateAfter bs lights kind refusal at s = afterCall (callAt bs at) (take (sizeAt bs at - 30) (drop (at + 30) bs)) lights kind refusal s
 
 -- the tally of all calls, from a state on
 abbrev pub CallsCompared : List ℕ → List ℕ → ℕ → ℕ → State → Tally → Type 0

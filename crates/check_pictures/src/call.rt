@@ -31,6 +31,7 @@ pub struct Call {
     pub rows: u16,
     system: u32,
     pub samples: u16,
+    pub bytes: u32,
     clipped: u32,
     first: u32,
     second: u32,
@@ -38,7 +39,7 @@ pub struct Call {
 }
 
 pub fn call_at(calls: &[u8], at: usize) -> Call
-    requires { ⌜ at + 26 ≤ length (now calls) ⌝ }
+    requires { ⌜ at + 30 ≤ length (now calls) ⌝ }
     ensures { λ r. ⌜ r ≡ callAt (now (calls .entry)) at ⌝ }
 {
     Call {
@@ -47,10 +48,11 @@ pub fn call_at(calls: &[u8], at: usize) -> Call
         rows: u16_at(calls, at + 4),
         system: wide(u16_at(calls, at + 6)),
         samples: u16_at(calls, at + 8),
-        clipped: u32_at(calls, at + 10),
-        first: u32_at(calls, at + 14),
-        second: u32_at(calls, at + 18),
-        third: u32_at(calls, at + 22),
+        bytes: u32_at(calls, at + 10),
+        clipped: u32_at(calls, at + 14),
+        first: u32_at(calls, at + 18),
+        second: u32_at(calls, at + 22),
+        third: u32_at(calls, at + 26),
     }
 }
 
@@ -74,9 +76,9 @@ impl Call {
 
     // The bytes of the call: its numbers, the block that is due, and the codes that are due.
     pub fn size(self) -> usize
-        ensures { λ r. ⌜ (r ≡ sizeOf self) × (r ≤ 1179665) ⌝ }
+        ensures { λ r. ⌜ (r ≡ sizeOf self) × (r ≤ 1179669) ⌝ }
     {
-        26 + self.block_length() + 12 * (self.samples as usize)
+        30 + self.block_length() + 12 * (self.samples as usize)
     }
 
     // The length of the buffer that the call is lent.

@@ -49,7 +49,7 @@ fn compare_with(
         let size = call.size();
         play = play.with(
             call,
-            &calls[at + 26..at + size],
+            &calls[at + 30..at + size],
             lights,
             kind,
             refusal,
@@ -98,7 +98,7 @@ fn holds_call(calls: &[u8], at: usize) -> bool
     requires { ⌜ at ≤ length (now calls) ⌝ }
     ensures { λ r. ⌜ r ≡ completeAt (now (calls .entry)) at ⌝ }
 {
-    if calls.len() - at < 26 {
+    if calls.len() - at < 30 {
         return false;
     }
     at + call::call_at(calls, at).size() <= calls.len()
@@ -123,7 +123,7 @@ fn expect_block(block: &[u8], due: &mut [u8])
     }
 }
 
-// Whether the answer, the rows accepted, the buffer and the reading are the ones that are due.
+// Whether the answer, the picture after it, the buffer and the reading are the ones that are due.
 fn is_met(
     call: Call,
     answer: Change,
@@ -139,11 +139,11 @@ fn is_met(
         & reading::is_met(call, lent, codes)
 }
 
-// Whether the answer and the rows accepted of the picture after it are the book's.
+// Whether the answer, and the rows accepted and the bytes of the picture after it are the book's.
 fn is_answered(call: Call, answer: Change, picture: Picture) -> bool
     ensures { λ r. ⌜ r ≡ answered call (pictureOutcome answer) picture ⌝ }
 {
-    call.has(answer) & (rows_of(picture) == call.rows)
+    call.has(answer) & (rows_of(picture) == call.rows) & (picture.bytes() == call.bytes)
 }
 
 fn rows_of(picture: Picture) -> u16

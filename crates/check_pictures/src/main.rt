@@ -4,11 +4,13 @@ mod call;
 mod lights;
 mod list;
 mod reading;
+mod total;
 
 fn main() {
     let mut bytes = io::large_buffer();
     let n = check_records::read(b"lights", &mut bytes);
     compare_by(&bytes[..n]);
+    compare_totals();
 }
 
 // Compares the file 'calls', whose rows are of these lights.
@@ -19,7 +21,7 @@ fn compare_by(bytes: &[u8]) {
 }
 
 fn compare_file(lights: &[u16]) {
-    let mut buf = [0u8; 524288];
+    let mut buf = [0u8; 655360];
     let n = check_records::read(b"calls", &mut buf);
     compare(&buf[..n], lights);
 }
@@ -39,4 +41,10 @@ fn compare(calls: &[u8], lights: &[u16]) {
     list::compare(calls, lights, call::CLOSE, 0).print(b"close accepted:");
     list::compare(calls, lights, call::CLOSE, 22).print(b"close refused 22:");
     list::compare(calls, lights, call::CLOSE, 24).print(b"close refused 24:");
+}
+
+fn compare_totals() {
+    let mut buf = [0u8; 16384];
+    let n = check_records::read(b"totals", &mut buf);
+    total::compare(&buf[..n]).print(b"totals:");
 }

@@ -15,10 +15,12 @@ use Rattle.segmented.specs.declared.Order.the-variants.{Segmented, Progressive}
 use Rattle.ferghulta.specs.declared.calls.BlockAnswer.{BlockAnswer}
 use Rattle.ferghulta.specs.declared.stored_picture.StoredPicture.{StoredPicture}
 use Rattle.ferghulta.specs.declared.picture_calls.PictureAnswer.{PictureAnswer}
+use Rattle.ferghulta.specs.declared.picture_calls.TotalAnswer.{TotalAnswer}
 use Rattle.ferghulta.proofs.picture_calls.ferghulta_new.Reads as new-call
 use Rattle.ferghulta.proofs.picture_calls.ferghulta_open.Reads as open-call
 use Rattle.ferghulta.proofs.picture_calls.ferghulta_row.Reads as row-call
 use Rattle.ferghulta.proofs.picture_calls.ferghulta_close.Reads as close-call
+use Rattle.ferghulta.proofs.picture_calls.ferghulta_total_bytes.Reads as total-call
 use Rattle.ferghulta.proofs.calls.ferghulta_read_block.Reads as read-call
 use Rattle.ferghulta.proofs.segmented_calls.ferghulta_to_segmented.Reads as to-segmented
 use Rattle.ferghulta.proofs.segmented_calls.ferghulta_to_progressive.Reads as to-progressive
@@ -39,6 +41,14 @@ labelIf false a = outcome.refused (a .refusal)
 abbrev pub labelBy : BlockAnswer → Outcome Label
 labelBy a = labelIf (eqb (a .refusal) 0) a
 
+-- the total that is foretold, with refusal 0
+abbrev pub totalIf : Bool → TotalAnswer → Outcome ℕ
+totalIf true a = outcome.accepted (a .bytes)
+totalIf false a = outcome.refused (a .refusal)
+
+abbrev pub totalBy : TotalAnswer → Outcome ℕ
+totalBy a = totalIf (eqb (a .refusal) 0) a
+
 -- the next call is given the picture that the answer has
 pub data Opens (k : StoredPicture) (n w h : ℕ) : Answer → StoredPicture → Type 0 where
   by-open : (a : PictureAnswer) (k′ : StoredPicture) (n′ w′ h′ : ℕ) → open-call.Post tt (k, (n, (w, (h, tt)))) a (k′, (n′, (w′, (h′, tt)))) → Opens k n w h (answerBy a) (a .picture)
@@ -55,8 +65,21 @@ pub data Reads : List ℕ → List ℕ → Outcome Label → List ℕ → Type 0
   by-read-block : (κs : Lfts 2) (bytes slice bytes′ slice′ : RefT (List ℕ)) (a : BlockAnswer) → read-call.Post κs (bytes, (slice, tt)) a (bytes′, (slice′, tt))
       → Reads (now bytes) (now slice) (labelBy a) (now slice′)
 
+pub data Totals (w h : ℕ) : Outcome ℕ → Type 0 where
+  by-total-bytes : (a : TotalAnswer) (w′ h′ : ℕ) → total-call.Post tt (w, (h, tt)) a (w′, (h′, tt)) → Totals w h (totalBy a)
+
+-- the bytes are the field that the caller reads
 abbrev pub card : Card
-card = record { Picture = StoredPicture; New = λ k. new-call.Post tt tt k tt; Open = Opens; Row = Rows; Close = Closes; Read = Reads }
+card = record {
+  Picture = StoredPicture;
+  bytes = λ k. k .bytes;
+  New = λ k. new-call.Post tt tt k tt;
+  Open = Opens;
+  Row = Rows;
+  Close = Closes;
+  Read = Reads;
+  Total = Totals;
+}
 
 -- ---- moving rows: the refusal alone is answered
 

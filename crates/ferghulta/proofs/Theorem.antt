@@ -4,7 +4,7 @@ use Prim.Native.Nat.{ℕ}
 use mathlib.Core.List.{List}
 use Rattle.picture.specs.Book.{Call, Answer, fresh}
 use Rattle.picture.proofs.Calls.{Lent, Ran, History}
-use Rattle.picture.proofs.Claims.{Demanded}
+use Rattle.picture.proofs.Claims.{Demanded, Counted}
 use Rattle.picture.proofs.Histories.{Lends, Happens, Answering, every-list-happens}
 use Rattle.segmented.proofs.Claims.{Claimed}
 use Rattle.ferghulta.specs.declared.stored_picture.StoredPicture.{StoredPicture}
@@ -16,6 +16,8 @@ use Rattle.ferghulta.proofs.picture_calls.ferghulta_row.Statement as ro
 use Rattle.ferghulta.proofs.picture_calls.ferghulta_row.Met as row-met
 use Rattle.ferghulta.proofs.picture_calls.ferghulta_close.Statement as close-statement
 use Rattle.ferghulta.proofs.picture_calls.ferghulta_close.Met as close-met
+use Rattle.ferghulta.proofs.picture_calls.ferghulta_total_bytes.Statement as total-statement
+use Rattle.ferghulta.proofs.picture_calls.ferghulta_total_bytes.Met as total-met
 use Rattle.ferghulta.proofs.calls.ferghulta_read_block.Statement as read-statement
 use Rattle.ferghulta.proofs.calls.ferghulta_read_block.Met as read-met
 use Rattle.ferghulta.proofs.segmented_calls.ferghulta_to_segmented.Statement as to-segmented-statement
@@ -23,7 +25,7 @@ use Rattle.ferghulta.proofs.segmented_calls.ferghulta_to_segmented.Met 
 use Rattle.ferghulta.proofs.segmented_calls.ferghulta_to_progressive.Statement as to-progressive-statement
 use Rattle.ferghulta.proofs.segmented_calls.ferghulta_to_progressive.Met as to-progressive-met
 use Rattle.ferghulta.proofs.Card.{card, Moves}
-use Rattle.ferghulta.proofs.Exported.{stateAt, demand-3, from-any}
+use Rattle.ferghulta.proofs.Exported.{stateAt, demand-3, from-any, bytes-counted, bytes-from-any}
 use Rattle.ferghulta.proofs.Histories.{answering}
 use Rattle.ferghulta.proofs.Segmented.{moving}
 
@@ -34,10 +36,14 @@ pub record Theorem : Type 3 where
   pub rows : {M : Type 1} → row-statement.statement M
   pub closes : {M : Type 1} → close-statement.statement M
   pub reads : {M : Type 1} → read-statement.statement M
-  -- demand 3, from a new picture and from any eight bytes
+  -- demand 3, from a new picture and from any twelve bytes
   pub lists : {cs : List Call} {ans : List Answer} {ls : List Lent} {l : StoredPicture} → History card cs ans ls l → Demanded card fresh cs ans ls (stateAt l)
   pub any : {k l : StoredPicture} {cs : List Call} {ans : List Answer} {ls : List Lent} → Ran card k cs ans ls l → Demanded card (stateAt k) cs ans ls (stateAt l)
-  -- it speaks of every list of calls, whatever the lent buffers hold, and of every reading
+  -- request 2026-06, from both
+  pub totals : {M : Type 1} → total-statement.statement M
+  pub bytes : {cs : List Call} {ans : List Answer} {ls : List Lent} {l : StoredPicture} → History card cs ans ls l → Counted card 0 fresh cs l
+  pub any-bytes : {k l : StoredPicture} {cs : List Call} {ans : List Answer} {ls : List Lent} → Ran card k cs ans ls l → Counted card (k .bytes) (stateAt k) cs l
+  -- they speak of every list of calls, whatever the lent buffers hold, and of every reading and every size
   pub happens : {cs : List Call} {bs : List (List ℕ)} → Lends cs bs → Happens card cs bs
   pub calls : Answering card
   -- request 2026-01
@@ -54,6 +60,9 @@ theorem = record {
   reads = read-met.met;
   lists = demand-3;
   any = from-any;
+  totals = total-met.met;
+  bytes = bytes-counted;
+  any-bytes = bytes-from-any;
   happens = every-list-happens answering;
   calls = answering;
   segments = to-segmented-met.met;

@@ -2,13 +2,14 @@
 ghost use mathlib.Core.Path.{_≡_};
 ghost use lib.ListN.{length};
 ghost use Rattle.picture.specs.declared.Phase.the-variants.{Fresh};
-ghost use Rattle.picture.specs.Picture.{at, opening, rowing, bufferAfter, closing, pictureOutcome};
-ghost use Rattle.ferghulta.specs.Stored.{stored, pictureOf, pictureAnswer};
+ghost use Rattle.picture.specs.Picture.{at, totalBytes, opening, rowing, bufferAfter, closing, pictureOutcome};
+ghost use Rattle.ferghulta.specs.Stored.{stored, pictureOf, pictureAnswer, totalAnswer};
 use crate::stored_picture::StoredPicture;
 use crate::stored_picture::picture_of;
 use crate::stored_picture::stored;
 use picture::Change;
 use picture::Picture;
+use picture::Total;
 
 #[repr(C)]
 pub struct PictureAnswer {
@@ -16,9 +17,28 @@ pub struct PictureAnswer {
     pub picture: StoredPicture,
 }
 
+#[repr(C)]
+pub struct TotalAnswer {
+    pub refusal: u32,
+    pub bytes: u32,
+}
+
+#[no_mangle]
+pub extern "C" fn ferghulta_total_bytes(width: u32, height: u32) -> TotalAnswer
+    ensures { λ r. ⌜ r ≡ totalAnswer (totalBytes width height) ⌝ }
+{
+    match picture::total_bytes(width, height) {
+        Total::Bytes(bytes) => TotalAnswer { refusal: 0, bytes },
+        Total::Refused(r) => TotalAnswer {
+            refusal: r.number(),
+            bytes: 0,
+        },
+    }
+}
+
 #[no_mangle]
 pub extern "C" fn ferghulta_new() -> StoredPicture
-    ensures { λ r. ⌜ r ≡ stored (at Fresh) ⌝ }
+    ensures { λ r. ⌜ r ≡ stored (at Fresh 0) ⌝ }
 {
     stored(Picture::new())
 }

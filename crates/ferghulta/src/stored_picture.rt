@@ -1,4 +1,4 @@
-// A picture as a caller in C stores it, in eight bytes.
+// A picture as a caller in C stores it, in twelve bytes.
 ghost use mathlib.Core.Path.{_≡_};
 ghost use Rattle.ferghulta.specs.Stored.{stored, storedAt, unopened, storedOpen, openPhase, phaseOf, pictureOf};
 use picture::Opened;
@@ -7,7 +7,7 @@ use picture::Picture;
 use systems::Named;
 use systems::System;
 
-// phase: 0 fresh, 1 open, 2 closed. The rest is 0 unless it is open.
+// phase: 0 fresh, 1 open, 2 closed. The rest is 0 unless it is open, but for the bytes of a closed picture.
 #[repr(C)]
 pub struct StoredPicture {
     pub phase: u8,
@@ -15,26 +15,27 @@ pub struct StoredPicture {
     pub width: u16,
     pub height: u16,
     pub rows: u16,
+    pub bytes: u32,
 }
 
 pub fn stored(picture: Picture) -> StoredPicture
     ensures { λ r. ⌜ r ≡ stored picture ⌝ }
 {
-    stored_at(picture.phase())
+    stored_at(picture.phase(), picture.bytes())
 }
 
-fn stored_at(phase: Phase) -> StoredPicture
-    ensures { λ r. ⌜ r ≡ storedAt phase ⌝ }
+fn stored_at(phase: Phase, bytes: u32) -> StoredPicture
+    ensures { λ r. ⌜ r ≡ storedAt phase bytes ⌝ }
 {
     match phase {
-        Phase::Fresh => unopened(0),
-        Phase::Open(o) => stored_open(o),
-        Phase::Closed => unopened(2),
+        Phase::Fresh => unopened(0, bytes),
+        Phase::Open(o) => stored_open(o, bytes),
+        Phase::Closed => unopened(2, bytes),
     }
 }
 
-fn unopened(phase: u8) -> StoredPicture
-    ensures { λ r. ⌜ r ≡ unopened phase ⌝ }
+fn unopened(phase: u8, bytes: u32) -> StoredPicture
+    ensures { λ r. ⌜ r ≡ unopened phase bytes ⌝ }
 {
     StoredPicture {
         phase,
@@ -42,11 +43,12 @@ fn unopened(phase: u8) -> StoredPicture
         width: 0,
         height: 0,
         rows: 0,
+        bytes,
     }
 }
 
-fn stored_open(o: Opened) -> StoredPicture
-    ensures { λ r. ⌜ r ≡ storedOpen o ⌝ }
+fn stored_open(o: Opened, bytes: u32) -> StoredPicture
+    ensures { λ r. ⌜ r ≡ storedOpen o bytes ⌝ }
 {
     let system = o.system;
     StoredPicture {
@@ -55,6 +57,7 @@ fn stored_open(o: Opened) -> StoredPicture
         width: o.width,
         height: o.height,
         rows: o.rows,
+        bytes,
     }
 }
 
@@ -62,7 +65,7 @@ fn stored_open(o: Opened) -> StoredPicture
 pub fn picture_of(k: StoredPicture) -> Picture
     ensures { λ r. ⌜ r ≡ pictureOf k ⌝ }
 {
-    Picture::resume(phase_of(k))
+    Picture::resume(phase_of(k), k.bytes)
 }
 
 fn phase_of(k: StoredPicture) -> Phase

@@ -2,9 +2,9 @@
 ghost use mathlib.Core.Path.{_≡_};
 ghost use Rattle.ferghulta.specs.Version.{version};
 
-const MAJOR: u32 = 3;
+const MAJOR: u32 = 4;
 
-const MINOR: u32 = 1;
+const MINOR: u32 = 0;
 
 const PATCH: u32 = 0;
 

@@ -18,16 +18,27 @@ use Rattle.picture.specs.declared.Phase.the-variants.{Fresh, Open, Close
 use Rattle.picture.specs.declared.Picture.{Picture}
 use Rattle.picture.specs.declared.Change.{Change}
 use Rattle.picture.specs.declared.Change.the-variants as change
-use Rattle.picture.specs.Picture.{at, around, pictureOutcome, heightOk, begin, openFrom, rowOpen, rowFrom, closeFrom}
+use Rattle.picture.specs.declared.Size.{Size}
+use Rattle.picture.specs.declared.Total.{Total}
+use Rattle.picture.specs.declared.Total.the-variants as total
+use Rattle.picture.specs.Picture.{at, around, pictureOutcome, heightOk, sized, totalBytes, totalOutcome, begin, openFrom, rowOpen, rowFrom, closeFrom}
 
 -- an answer that says o
 pub record ChangeFor (o : Outcome Picture) : Type 0 where
   pub change : Change
   pub outcome : pictureOutcome change ≡ o
 
-pub change-for : {o : Outcome Phase} → Answerable o → ChangeFor (around o)
-change-for (values f) = record { change = change.To (at f); outcome = refl }
-change-for (refusing r) = record { change = change.Refused r; outcome = refl }
+pub change-for : {o : Outcome Phase} → Answerable o → (b : ℕ) → ChangeFor (around o b)
+change-for (values f) b = record { change = change.To (at f b); outcome = refl }
+change-for (refusing r) b = record { change = change.Refused r; outcome = refl }
+
+pub record TotalFor (o : Outcome ℕ) : Type 0 where
+  pub total : Total
+  pub outcome : totalOutcome total ≡ o
+
+pub total-for : {o : Outcome ℕ} → Answerable o → TotalFor o
+total-for (values b) = record { total = total.Bytes b; outcome = refl }
+total-for (refusing r) = record { total = total.Refused r; outcome = refl }
 
 pub record ReadFor (o : Outcome Header) : Type 0 where
   pub read : BlockRead
@@ -37,9 +48,16 @@ pub read-for : {o : Outcome Header} → Answerable o → ReadFor o
 read-for (values h) = record { read = read.Row h; outcome = refl }
 read-for (refusing r) = record { read = read.Refused r; outcome = refl }
 
+sized-answerable : (w h : ℕ) → Answerable (sized w h)
+unfolding sized
+sized-answerable w h = tested (widthOk w) refusal.Width (tested (heightOk h) refusal.Height (values _))
+
+pub total-answerable : (w h : ℕ) → Answerable (totalBytes w h)
+total-answerable w h = followed (sized-answerable w h) (λ s. values _)
+
 begin-answerable : (n w h : ℕ) → Answerable (begin n w h)
 unfolding begin
-begin-answerable n w h = followed (named-answerable n) (λ y. tested (widthOk w) refusal.Width (tested (heightOk h) refusal.Height (values _)))
+begin-answerable n w h = followed (named-answerable n) (λ y. followed (sized-answerable w h) (λ s. values _))
 
 pub open-answerable : (f : Phase) (n w h : ℕ) → Answerable (openFrom f n w h)
 open-answerable Fresh n w h = begin-answerable n w h

@@ -17,6 +17,8 @@ pub record Label : Type 0 where
 pub record Card : Type 1 where
   -- a picture as the caller holds it
   pub Picture : Type 0
+  -- the bytes written that it carries (request 2026-06)
+  pub bytes : Picture → ℕ
   -- a new one
   pub New : Picture → Type 0
   -- a picture, system, width and height; the answer, and the picture that the next call is given
@@ -27,6 +29,8 @@ pub record Card : Type 1 where
   pub Close : Picture → Answer → Picture → Type 0
   -- a block's bytes and a lent slice; the answer, and the slice as it was left
   pub Read : List ℕ → List ℕ → Outcome Label → List ℕ → Type 0
+  -- a width and a height; the total that is foretold
+  pub Total : ℕ → ℕ → Outcome ℕ → Type 0
 
 -- a buffer that was lent to a row: the answer to the call, and its bytes before and after
 pub record Lent : Type 0 where

@@ -13,12 +13,14 @@ use Rattle.block.specs.Read.{headerOutcome}
 use Rattle.block.proofs.read_block.Reads as read-call
 use Rattle.picture.specs.declared.Picture.{Picture}
 use Rattle.picture.specs.declared.Change.{Change}
-use Rattle.picture.specs.Picture.{pictureOutcome}
+use Rattle.picture.specs.declared.Total.{Total}
+use Rattle.picture.specs.Picture.{pictureOutcome, totalOutcome}
 use Rattle.picture.specs.Book.{Answer, accepted, refused}
 use Rattle.picture.proofs.Picture.new.Reads as new-call
 use Rattle.picture.proofs.Picture.open.Reads as open-call
 use Rattle.picture.proofs.Picture.row.Reads as row-call
 use Rattle.picture.proofs.Picture.close.Reads as close-call
+use Rattle.picture.proofs.total_bytes.Reads as total-call
 use Rattle.picture.proofs.Calls.{Label, Card}
 
 -- what the caller hears of a call
@@ -52,5 +54,17 @@ pub data Reads : List ℕ → List ℕ → Outcome Label → List ℕ → Type 0
   by-read-block : (κs : Lfts 2) (bytes slice bytes′ slice′ : RefT (List ℕ)) (r : BlockRead) → read-call.Post κs (bytes, (slice, tt)) r (bytes′, (slice′, tt))
       → Reads (now bytes) (now slice) (labelOf (headerOutcome r)) (now slice′)
 
+pub data Totals (w h : ℕ) : Outcome ℕ → Type 0 where
+  by-total-bytes : (r : Total) (w′ h′ : ℕ) → total-call.Post tt (w, (h, tt)) r (w′, (h′, tt)) → Totals w h (totalOutcome r)
+
 abbrev pub card : Card
-card = record { Picture = Picture; New = λ p. new-call.Post tt tt p tt; Open = Opens; Row = Rows; Close = Closes; Read = Reads }
+card = record {
+  Picture = Picture;
+  bytes = λ p. p .bytes;
+  New = λ p. new-call.Post tt tt p tt;
+  Open = Opens;
+  Row = Rows;
+  Close = Closes;
+  Read = Reads;
+  Total = Totals;
+}

@@ -1,8 +1,9 @@
--- What demand 3 says of a list of calls, in document 01's words ('Picture', 'Light to code', 'Triples') and request 2026-03's.
+-- What demand 3 says of a list of calls, in document 01's words ('Picture', 'Light to code', 'Triples') and request 2026-03's, and
+-- what request 2026-06 says of the bytes that a picture carries.
 -- Definitions only.
 use Prim.Native.Nat.{ℕ, _+_, _*_, _-_, _≤_, _<_, min, max}
 use mathlib.Core.Path.{_≡_}
-use mathlib.Core.Bool.{false}
+use mathlib.Core.Bool.{Bool, true, false}
 use mathlib.Core.List.{List, [], _∷_, _++_}
 use lib.IntN.{pos}
 use lib.ListN.{length, take, drop, getD}
@@ -20,7 +21,8 @@ use Rattle.block.specs.Read.{sampleAt}
 use Rattle.picture.specs.declared.Opened.{Opened}
 use Rattle.picture.specs.declared.Phase.{Phase}
 use Rattle.picture.specs.declared.Phase.the-variants.{Fresh, Open, Closed}
-use Rattle.picture.specs.Book.{Call, State, fresh, opened, closed, Entry, Answer, accepted, refused, next, answersFrom, entriesFrom}
+use Rattle.picture.specs.declared.Picture.{Picture}
+use Rattle.picture.specs.Book.{Call, opens, rows, closes, State, fresh, opened, closed, Entry, Answer, accepted, refused, accepts, sheet, next, answersFrom, entriesFrom, sumFrom}
 use Rattle.picture.proofs.Calls.{Label, Card, Lent}
 
 abbrev pub WithinOne : ℕ → ℕ → Type 0
@@ -123,15 +125,50 @@ pub record Demanded (card : Card) (st : State) (cs : List Call) (ans : List Answ
   -- the blocks of the accepted rows, in order, are those of the book's entries
   pub blocks : Blocks card (acceptedRows ls) (entriesFrom st cs)
 
--- a width of 1 to 7680, a height of 1 to 4320, and no more rows than the height
-pub record Sized (o : Opened) : Type 0 where
+-- from the book's state st, with b bytes: what the picture q carries, which the last of a list of calls left
+pub record Counted (card : Card) (b : ℕ) (st : State) (cs : List Call) (q : card .Picture) : Type 0 where
+  -- the summed lengths of the blocks accepted since the last accepted open
+  pub summed : card .bytes q ≡ sumFrom b st cs
+  -- and where a close is accepted then, the total that is foretold for the picture's width and height
+  pub foretold : {q′ : card .Picture} {r : Outcome ℕ} → card .Close q accepted q′
+      → card .Total (sheet (stateFrom st cs) .width) (sheet (stateFrom st cs) .height) r → r ≡ outcome.accepted (card .bytes q′)
+
+-- the lengths of the blocks of entries, summed
+unfoldable pub lengths : List Entry → ℕ
+lengths [] = 0
+lengths (e ∷ es) = 9 + 6 * e .width + lengths es
+
+-- no open among the calls is accepted
+abbrev pub isOpening : State → Call → Bool
+isOpening st (opens n w h) = accepts st (opens n w h)
+isOpening st (rows lights room) = false
+isOpening st closes = false
+
+unfoldable pub NoOpening : State → List Call → Type 0
+NoOpening st [] = Unit {0}
+NoOpening st (c ∷ cs) = (isOpening st c ≡ false) × NoOpening (next st c) cs
+
+-- the book's sum is what the request calls it
+pub record SumSince : Type 0 where
+  -- 0 before any accepted open
+  pub before-any : (cs : List Call) → NoOpening fresh cs → sumFrom 0 fresh cs ≡ 0
+  -- after one, if it was the last, the lengths of the blocks of the entries since
+  pub since-last : (b n w h : ℕ) (st : State) (before cs : List Call) → accepts (stateFrom st before) (opens n w h) ≡ true
+      → NoOpening (next (stateFrom st before) (opens n w h)) cs → sumFrom b st (before ++ opens n w h ∷ cs) ≡ lengths (entriesFrom (next (stateFrom st before) (opens n w h)) cs)
+
+-- a width of 1 to 7680, a height of 1 to 4320, no more rows than the height, and the bytes of so many blocks
+pub record Sized (o : Opened) (b : ℕ) : Type 0 where
   pub width-from : 1 ≤ o .width
   pub width-to : o .width ≤ 7680
   pub height-from : 1 ≤ o .height
   pub height-to : o .height ≤ 4320
   pub rows-to : o .rows ≤ o .height
+  pub bytes-of : o .rows * (9 + 6 * o .width) ≡ b
 
-abbrev pub Proper : Phase → Type 0
-Proper Fresh = Unit {0}
-Proper (Open o) = Sized o
-Proper Closed = Unit {0}
+abbrev pub ProperAt : Phase → ℕ → Type 0
+ProperAt Fresh b = Unit {0}
+ProperAt (Open o) b = Sized o b
+ProperAt Closed b = Unit {0}
+
+abbrev pub Proper : Picture → Type 0
+Proper p = ProperAt (p .phase) (p .bytes)

@@ -1,7 +1,8 @@
--- Demand 3, as one claim about every list of calls on a card that does what the definitions say, and so of this crate's.
+-- Demand 3, as one claim about every list of calls on a card that does what the definitions say, and so of this crate's; and beside
+-- it the bytes that a picture carries.
 -- Assumes nothing.
 use Prim.Native.Nat.{ℕ, _*_, _≤_}
-use mathlib.Core.Path.{_≡_, refl, ap, sym, subst}
+use mathlib.Core.Path.{_≡_, refl, ap, sym, subst, _∙_}
 use mathlib.Core.Bool.{Bool, true, false}
 use mathlib.Core.List.{List, [], _∷_, _++_}
 use native.Mathlib.Omega.{arith}
@@ -20,13 +21,14 @@ use Rattle.picture.specs.declared.Opened.{Opened}
 use Rattle.picture.specs.declared.Phase.{Phase}
 use Rattle.picture.specs.declared.Phase.the-variants.{Fresh, Open, Closed}
 use Rattle.picture.specs.declared.Picture.{Picture}
-use Rattle.picture.specs.Picture.{around, openFrom, opening, rowOpen, rowFrom, rowing, bufferBy, bufferFrom, bufferAfter, closeFrom, closing}
-use Rattle.picture.specs.Book.{Call, opens, rows, closes, State, fresh, Answer, accepted, refused, Entry, accepts, enters, choose, answersFrom, entriesFrom}
+use Rattle.picture.specs.Picture.{at, around, totalBytes, opening, rowOpen, rowFrom, rowing, bufferBy, bufferFrom, bufferAfter, closing}
+use Rattle.picture.specs.Book.{Call, opens, rows, closes, State, fresh, Answer, accepted, refused, Entry, accepts, enters, choose, answersFrom, entriesFrom, sumFrom}
 use Rattle.picture.proofs.Agreement.{split}
 use Rattle.picture.proofs.Calls.{Label, Card, Lent, Lights, Ran, ends, after-open, after-row, after-close, History}
-use Rattle.picture.proofs.Card.{answerOf, labelOf, Opens, by-open, Rows, by-row, Closes, by-close, Reads, by-read-block, card}
-use Rattle.picture.proofs.Claims.{ReadsBack, Blocks, none, one, ifAccepted, acceptedRows, Unchanged, stateOf, stateFrom, Demanded, Proper}
+use Rattle.picture.proofs.Card.{answerOf, labelOf, Opens, by-open, Rows, by-row, Closes, by-close, Reads, by-read-block, Totals, by-total-bytes, card}
+use Rattle.picture.proofs.Claims.{ReadsBack, Blocks, none, one, ifAccepted, acceptedRows, Unchanged, stateOf, stateFrom, Demanded, Counted, ProperAt, Proper}
 use Rattle.picture.proofs.Faithful.{Follows, Faithful}
+use Rattle.picture.proofs.Foretold.{close-foretold}
 use Rattle.picture.proofs.Rows.{reads-back}
 use Rattle.picture.proofs.Steps.{InStep, StepsTo, open-step, row-step, close-step}
 
@@ -48,11 +50,11 @@ entered st c = choose (accepts st c) (enters st c) []
 abbrev lent : Phase → List ℕ → List ℕ → Lent
 lent f lights out = record { answer = answerOf (rowFrom f lights (length out)); before = out; after = bufferFrom f lights out }
 
-row-keeps : {card : Card} → Faithful card → (f : Phase) (lights out : List ℕ) → Proper f → Lights lights
+row-keeps : {card : Card} → Faithful card → (f : Phase) (n : ℕ) (lights out : List ℕ) → ProperAt f n → Lights lights
     → Blocks card (ifAccepted (lent f lights out .answer) (lent f lights out)) (entered (stateOf f) (rows lights (length out)))
 unfolding rowOpen
-row-keeps does Fresh lights out g l = none
-row-keeps {card} does (Open o) lights out g l =
+row-keeps does Fresh n lights out g l = none
+row-keeps {card} does (Open o) n lights out g l =
     split (ltb (o .rows) (o .height))
     (λ a. split (eqb (length lights) (3 * o .width))
     (λ b. split (leb (size (o .width)) (length out))
@@ -67,7 +69,7 @@ row-keeps {card} does (Open o) lights out g l =
     (λ c. simp (a, b, c) none))
     (λ b. simp (a, b) none))
     (λ a. simp a none)
-row-keeps does Closed lights out g l = none
+row-keeps does Closed n lights out g l = none
 
 -- ---- a call, then those that follow it
 
@@ -75,16 +77,17 @@ blocks-append : {card : Card} {ls ms : List Lent} {es fs : List Entry} → Block
 blocks-append none y = y
 blocks-append (one r s x) y = one r s (blocks-append x y)
 
--- what the calls cs come to that lead from the phase f to g, which calls can reach
-pub record After (card : Card) (f : Phase) (cs : List Call) (ans : List Answer) (ls : List Lent) (g : Phase) : Type 0 where
-  pub demanded : Demanded card (stateOf f) cs ans ls (stateOf g)
-  pub proper : Proper g
+-- what the calls cs come to that lead from the picture p to q, which calls can reach
+pub record After (card : Card) (p : Picture) (cs : List Call) (ans : List Answer) (ls : List Lent) (q : Picture) : Type 0 where
+  pub demanded : Demanded card (stateOf (p .phase)) cs ans ls (stateOf (q .phase))
+  pub summed : q .bytes ≡ sumFrom (p .bytes) (stateOf (p .phase)) cs
+  pub proper : Proper q
 
-module _ {card : Card} {f f′ g : Phase} {c : Call} {answer : Answer} {cs : List Call} {ans : List Answer} {ls : List Lent} (i : InStep f c answer f′) where
+module _ {card : Card} {p p′ q : Picture} {c : Call} {answer : Answer} {cs : List Call} {ans : List Answer} {ls : List Lent} (g : Proper p) (i : InStep p c answer p′) where
   -- with the buffers ms in all
-  then : {ms : List Lent} → Unchanged ms → Blocks card (acceptedRows ms) (entered (stateOf f) c ++ entriesFrom (stateOf f′) cs)
-      → After card f′ cs ans ls g → After card f (c ∷ cs) (answer ∷ ans) ms g
-  unfolding answersFrom entriesFrom stateFrom
+  then : {ms : List Lent} → Unchanged ms → Blocks card (acceptedRows ms) (entered (stateOf (p .phase)) c ++ entriesFrom (stateOf (p′ .phase)) cs)
+      → After card p′ cs ans ls q → After card p (c ∷ cs) (answer ∷ ans) ms q
+  unfolding answersFrom entriesFrom stateFrom sumFrom
   then u b k = record {
     demanded = record {
       answer = rw (← i .leads-on, ← i .same) (ap (λ (l : List Answer). answer ∷ l) (k .demanded .answer));
@@ -92,65 +95,74 @@ module _ {card : Card} {f f′ g : Phase} {c : Call} {answer : Answer} {cs : Lis
       unchanged = u;
       blocks = rw (← i .leads-on) b;
     };
+    summed = rw (← i .leads-on, ← i .sums-on g) (k .summed);
     proper = k .proper;
   }
 
   -- an open or a close: no buffer, no entry
-  call-then : entered (stateOf f) c ≡ [] → After card f′ cs ans ls g → After card f (c ∷ cs) (answer ∷ ans) ls g
+  call-then : entered (stateOf (p .phase)) c ≡ [] → After card p′ cs ans ls q → After card p (c ∷ cs) (answer ∷ ans) ls q
   call-then e k = then (k .demanded .unchanged) (rw e (k .demanded .blocks)) k
 
-  row-then : {l : Lent} → ((n : ℕ) → l .answer ≡ refused n → l .after ≡ l .before) → Blocks card (ifAccepted (l .answer) l) (entered (stateOf f) c)
-      → After card f′ cs ans ls g → After card f (c ∷ cs) (answer ∷ ans) (l ∷ ls) g
+  row-then : {l : Lent} → ((n : ℕ) → l .answer ≡ refused n → l .after ≡ l .before) → Blocks card (ifAccepted (l .answer) l) (entered (stateOf (p .phase)) c)
+      → After card p′ cs ans ls q → After card p (c ∷ cs) (answer ∷ ans) (l ∷ ls) q
   unfolding acceptedRows Unchanged
   row-then u b k = then (u, k .demanded .unchanged) (blocks-append b (k .demanded .blocks)) k
 
--- a call on a picture is one on its phase
-on-phase : {p p′ : Picture} {answer : Answer} (o : Outcome Phase) → Follows p (around o) answer p′ → Follows (p .phase) o answer (p′ .phase)
-on-phase (outcome.accepted f) s = rw (s .same, s .next) record { same = refl; next = refl }
-on-phase (outcome.refused n) s = rw (s .same, s .next) record { same = refl; next = refl }
-
-in-step : {f f′ : Phase} {o : Outcome Phase} {c : Call} {answer : Answer} → Follows f o answer f′ → StepsTo f c o → InStep f c answer f′
+in-step : {p p′ : Picture} {o : Outcome Picture} {c : Call} {answer : Answer} → Follows p o answer p′ → StepsTo p c o → InStep p c answer p′
 in-step s t = rw (s .same, s .next) t
 
-no-entry : (t : Bool) → choose {A = List Entry} t [] [] ≡ []
-no-entry true = refl
-no-entry false = refl
+-- a call on a picture is answered as the one on its phase
+answer-on-phase : (o : Outcome Phase) (b : ℕ) → answerOf (around o b) ≡ answerOf o
+answer-on-phase (outcome.accepted f) b = refl
+answer-on-phase (outcome.refused n) b = refl
+
+chosen-same : {A : Type 0} (t : Bool) (a : A) → choose t a a ≡ a
+chosen-same true a = refl
+chosen-same false a = refl
 
 -- ---- a list of calls
 
 module _ {card : Card} (does : Faithful card) where
-  abbrev at-phase : card .Picture → Phase
-  at-phase k = does .picture k .phase
+  abbrev at-picture : card .Picture → Picture
+  at-picture k = does .picture k
+
+  abbrev at-state : card .Picture → State
+  at-state k = stateOf (at-picture k .phase)
 
   -- from any picture that calls can reach
-  pub run : {k l : card .Picture} {cs : List Call} {ans : List Answer} {ls : List Lent} → Proper (at-phase k) → Ran card k cs ans ls l → After card (at-phase k) cs ans ls (at-phase l)
-  unfolding answersFrom entriesFrom stateFrom acceptedRows Unchanged
-  run g ends = record { demanded = record { answer = refl; state = refl; unchanged = tt; blocks = none }; proper = g }
+  pub run : {k l : card .Picture} {cs : List Call} {ans : List Answer} {ls : List Lent} → Proper (at-picture k) → Ran card k cs ans ls l → After card (at-picture k) cs ans ls (at-picture l)
+  unfolding answersFrom entriesFrom stateFrom sumFrom acceptedRows Unchanged
+  run g ends = record { demanded = record { answer = refl; state = refl; unchanged = tt; blocks = none }; summed = refl; proper = g }
   run {k} g (after-open {n = n} {w = w} {h = h} call rest) =
-      let s = on-phase (openFrom (at-phase k) n w h) (does .opens call) in
-      let i = in-step s (open-step (at-phase k) n w h) in
-      call-then i (no-entry (accepts (stateOf (at-phase k)) (opens n w h))) (run (i .stays g) rest)
+      let i = in-step (does .opens call) (open-step (at-picture k) n w h) in
+      call-then g i (chosen-same (accepts (at-state k) (opens n w h)) []) (run (i .stays g) rest)
   run {k} g (after-row {lights = lights} {out = out} {out′ = out′} {answer = answer} lit call rest) =
+      let f = at-picture k .phase in
+      let s = does .rows call .0 in
       let left = does .rows call .1 in
-      let s = on-phase (rowFrom (at-phase k) lights (length out)) (does .rows call .0) in
-      let c : Call = rows lights (length out) in
-      let i = in-step s (row-step (at-phase k) lights (length out)) in
-      let u : (n : ℕ) → answer ≡ refused n → out′ ≡ out = rw (s .same, left) (row-leaves (at-phase k) lights out) in
-      let b : Blocks card (ifAccepted answer (record { answer = answer; before = out; after = out′ })) (entered (stateOf (at-phase k)) c) = rw (s .same, left) (row-keeps does (at-phase k) lights out g lit) in
-      row-then i u b (run (i .stays g) rest)
+      let same = s .same ∙ answer-on-phase (rowFrom f lights (length out)) _ in
+      let i = in-step s (row-step (at-picture k) lights (length out)) in
+      let u : (n : ℕ) → answer ≡ refused n → out′ ≡ out = rw (same, left) (row-leaves f lights out) in
+      let b : Blocks card (ifAccepted answer (record { answer = answer; before = out; after = out′ })) (entered (at-state k) (rows lights (length out))) = rw (same, left) (row-keeps does f (at-picture k .bytes) lights out g lit) in
+      row-then g i u b (run (i .stays g) rest)
   run {k} g (after-close call rest) =
-      let s = on-phase (closeFrom (at-phase k)) (does .closes call) in
-      let i = in-step s (close-step (at-phase k)) in
-      call-then i (no-entry (accepts (stateOf (at-phase k)) closes)) (run (i .stays g) rest)
+      let i = in-step (does .closes call) (close-step (at-picture k)) in
+      call-then g i (chosen-same (accepts (at-state k) closes) []) (run (i .stays g) rest)
 
-  from-fresh : {cs : List Call} {ans : List Answer} {ls : List Lent} {l : card .Picture} → History card cs ans ls l → After card Fresh cs ans ls (at-phase l)
+  pub from-fresh : {cs : List Call} {ans : List Answer} {ls : List Lent} {l : card .Picture} → History card cs ans ls l → After card (at Fresh 0) cs ans ls (at-picture l)
   from-fresh s =
-      let new : at-phase (s .start) ≡ Fresh = ap (λ (p : Picture). p .phase) (does .news (s .made)) in
+      let new = does .news (s .made) in
       rw new at (run (rw new tt) (s .ran))
 
-  -- Demand 3, of a card that does what the definitions say
-  pub demanded : {cs : List Call} {ans : List Answer} {ls : List Lent} {l : card .Picture} → History card cs ans ls l → Demanded card fresh cs ans ls (stateOf (at-phase l))
-  demanded s = from-fresh s .demanded
+  -- the bytes that a picture carries, wherever the calls began
+  pub counted : {p : Picture} {cs : List Call} {ans : List Answer} {ls : List Lent} {l : card .Picture} → After card p cs ans ls (at-picture l) → Counted card (p .bytes) (stateOf (p .phase)) cs l
+  counted {l = l} k = record {
+    summed = does .bytes l ∙ k .summed;
+    foretold = λ {q′} call told.
+        let i = in-step (does .closes call) (close-step (at-picture l)) in
+        rw (does .bytes q′ ∙ i .sums-on (k .proper) ∙ chosen-same (accepts (at-state l) closes) _)
+        (does .totals told ∙ rw (← k .demanded .state) (close-foretold (at-picture l .phase) _ (k .proper) (sym (i .same))));
+  }
 
 -- ---- this crate's card
 
@@ -166,22 +178,32 @@ closes-so (by-close r _ post) = rw (← post) record { same = refl; next = refl 
 reads-so : {bytes slice left : List ℕ} {r : Outcome Label} → Reads bytes slice r left → (r ≡ labelOf (headerOf bytes (length slice))) × (left ≡ sliceAfter bytes slice)
 reads-so (by-read-block _ _ _ _ _ r post) = (ap labelOf (post .0), post .1)
 
+totals-so : {w h : ℕ} {r : Outcome ℕ} → Totals w h r → r ≡ totalBytes w h
+totals-so (by-total-bytes r _ _ post) = post
+
 faithful : Faithful card
 faithful = record {
   picture = λ p. p;
+  bytes = λ p. refl;
   news = λ made. made;
   opens = opens-so;
   rows = rows-so;
   closes = closes-so;
   reads = reads-so;
+  totals = totals-so;
 }
 
 -- Demand 3.
 pub demand-3 : {cs : List Call} {ans : List Answer} {ls : List Lent} {q : Picture} → History card cs ans ls q → Demanded card fresh cs ans ls (stateOf (q .phase))
 unfolding faithful
-demand-3 s = demanded faithful s
+demand-3 s = from-fresh faithful s .demanded
+
+-- Request 2026-06.
+pub bytes-counted : {cs : List Call} {ans : List Answer} {ls : List Lent} {q : Picture} → History card cs ans ls q → Counted card 0 fresh cs q
+unfolding faithful
+bytes-counted s = counted faithful (from-fresh faithful s)
 
 -- no list of calls reaches a picture but these
-pub only-proper : {cs : List Call} {ans : List Answer} {ls : List Lent} {q : Picture} → History card cs ans ls q → Proper (q .phase)
+pub only-proper : {cs : List Call} {ans : List Answer} {ls : List Lent} {q : Picture} → History card cs ans ls q → Proper q
 unfolding faithful
 only-proper s = from-fresh faithful s .proper

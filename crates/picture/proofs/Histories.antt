@@ -9,11 +9,11 @@ use Rattle.exact.proofs.Lending.{lend, lifetimes}
 use Rattle.block.specs.Read.{sliceAfter}
 use Rattle.block.proofs.Answerable.{reading-answerable}
 use Rattle.picture.specs.declared.Phase.the-variants.{Fresh}
-use Rattle.picture.specs.Picture.{at, bufferAfter}
+use Rattle.picture.specs.Picture.{at, withBlock, bufferAfter}
 use Rattle.picture.specs.Book.{Call, opens, rows, closes, Answer}
 use Rattle.picture.proofs.Calls.{Label, Card, Lent, Lights, Ran, ends, after-open, after-row, after-close, History}
-use Rattle.picture.proofs.Card.{by-open, by-row, by-close, by-read-block, card}
-use Rattle.picture.proofs.Answerable.{change-for, read-for, open-answerable, row-answerable, close-answerable}
+use Rattle.picture.proofs.Card.{by-open, by-row, by-close, by-read-block, by-total-bytes, card}
+use Rattle.picture.proofs.Answerable.{change-for, read-for, total-for, open-answerable, row-answerable, close-answerable, total-answerable}
 
 -- every call on a card comes to something, whatever it is given
 pub record Answering (card : Card) : Type 0 where
@@ -22,6 +22,7 @@ pub record Answering (card : Card) : Type 0 where
   pub rows : (p : card .Picture) (lights out : List ℕ) → (answer : Answer) × (out′ : List ℕ) × (p′ : card .Picture) × card .Row p lights out answer out′ p′
   pub closes : (p : card .Picture) → (answer : Answer) × (p′ : card .Picture) × card .Close p answer p′
   pub reads : (bytes slice : List ℕ) → (r : Outcome Label) × (left : List ℕ) × card .Read bytes slice r left
+  pub totals : (w h : ℕ) → (r : Outcome ℕ) × card .Total w h r
 
 -- the buffers bs can be lent to the rows of the calls cs: each has the length that its call says, and the row's lights are 16-bit words
 pub data Lends : List Call → List (List ℕ) → Type 0 where
@@ -79,13 +80,14 @@ module _ {card : Card} (calls : Answering card) where
 
 pub answering : Answering card
 answering = record {
-  news = (at Fresh, refl);
-  opens = λ p n w h. let a = change-for (open-answerable (p .phase) n w h) in (_, _, by-open (a .change) p n w h (a .outcome));
+  news = (at Fresh 0, refl);
+  opens = λ p n w h. let a = change-for (open-answerable (p .phase) n w h) 0 in (_, _, by-open (a .change) p n w h (a .outcome));
   rows = λ p lights out.
-      let a = change-for (row-answerable (p .phase) lights (length out)) in
+      let a = change-for (row-answerable (p .phase) lights (length out)) (withBlock (p .phase) (p .bytes)) in
       (_, _, _, by-row lifetimes (lend lights) (lend out) (lend lights) (lend (bufferAfter p lights out)) (a .change) p (a .outcome, refl));
-  closes = λ p. let a = change-for (close-answerable (p .phase)) in (_, _, by-close (a .change) p (a .outcome));
+  closes = λ p. let a = change-for (close-answerable (p .phase)) (p .bytes) in (_, _, by-close (a .change) p (a .outcome));
   reads = λ bytes slice.
       let a = read-for (reading-answerable bytes (length slice)) in
       (_, _, by-read-block lifetimes (lend bytes) (lend slice) (lend bytes) (lend (sliceAfter bytes slice)) (a .read) (a .outcome, refl));
+  totals = λ w h. let a = total-for (total-answerable w h) in (_, by-total-bytes (a .total) w h (a .outcome));
 }

@@ -6,6 +6,9 @@ pub mod Faithful
 mod NotOpen
 mod Neighbours
 mod Rows
+pub mod Totals
+pub mod Sums
+mod Foretold
 pub mod Steps
 pub mod Demand
 pub mod Resume

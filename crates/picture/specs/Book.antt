@@ -115,3 +115,16 @@ answersFrom st (c ∷ cs) = answers st c ∷ answersFrom (next st c) cs
 unfoldable pub entriesFrom : State → List Call → List Entry
 entriesFrom st [] = []
 entriesFrom st (c ∷ cs) = choose (accepts st c) (enters st c) [] ++ entriesFrom (next st c) cs
+
+-- request 2026-06: the summed lengths of the blocks accepted since the last accepted open, which were b before the call
+abbrev pub sums : ℕ → State → Call → ℕ
+sums b st (opens n w h) = 0
+sums b st (rows lights room) = b + (9 + 6 * sheet st .width)
+sums b st closes = b
+
+abbrev pub nextSum : ℕ → State → Call → ℕ
+nextSum b st c = choose (accepts st c) (sums b st c) b
+
+unfoldable pub sumFrom : ℕ → State → List Call → ℕ
+sumFrom b st [] = b
+sumFrom b st (c ∷ cs) = sumFrom (nextSum b st c) (next st c) cs

@@ -1,6 +1,6 @@
 -- The picture's calls (document 01, 'Picture' and 'What the caller hears'): state is tested first, then input in the order of the numbers.
 -- Definitions only.
-use Prim.Native.Nat.{ℕ, _+_, _*_}
+use Prim.Native.Nat.{ℕ, _+_, _*_, min}
 use mathlib.Core.Bool.{Bool, _&&_, cond}
 use mathlib.Core.List.{List, _++_}
 use lib.Dec.{leb, ltb, eqb}
@@ -18,36 +18,52 @@ use Rattle.picture.specs.declared.Phase.the-variants.{Fresh, Open, Close
 use Rattle.picture.specs.declared.Picture.{Picture}
 use Rattle.picture.specs.declared.Change.{Change}
 use Rattle.picture.specs.declared.Change.the-variants as change
+use Rattle.picture.specs.declared.Size.{Size}
+use Rattle.picture.specs.declared.Total.{Total}
+use Rattle.picture.specs.declared.Total.the-variants as total
 
--- the picture around a phase
-abbrev pub at : Phase → Picture
-at f = record { phase = f }
+-- the picture at a phase, with the bytes written so far (request 2026-06)
+abbrev pub at : Phase → ℕ → Picture
+at f b = record { phase = f; bytes = b }
 
--- a call's outcome on the picture, by its outcome on the phase
-abbrev pub around : Outcome Phase → Outcome Picture
-around o = o and-then λ f. accepted (at f)
+-- a call's outcome on the picture, by its outcome on the phase and the bytes after it
+abbrev pub around : Outcome Phase → ℕ → Outcome Picture
+around o b = o and-then λ f. accepted (at f b)
 
 -- a height of 1 to 4320; a width is as in a block, 1 to 7680
 abbrev pub heightOk : ℕ → Bool
 heightOk h = leb 1 h && leb h 4320
 
--- an open picture that calls can make
-unfoldable pub proper : Opened → Bool
-proper o = (widthOk (o .width) && heightOk (o .height)) && leb (o .rows) (o .height)
+-- a picture's size
+unfoldable pub sized : ℕ → ℕ → Outcome Size
+sized w h = require (widthOk w) 2 (require (heightOk h) 3 (accepted (record { width = w; height = h })))
 
--- a phase that a caller kept: any other open one is taken as fresh
-abbrev pub resumed : Phase → Phase
-resumed Fresh = Fresh
-resumed (Open o) = cond (proper o) (Open o) Fresh
-resumed Closed = Closed
+-- the bytes that a picture of this size takes (request 2026-06)
+abbrev pub totalBytes : ℕ → ℕ → Outcome ℕ
+totalBytes w h = sized w h and-then λ s. accepted (s .height * size (s .width))
+
+-- what the answer says
+abbrev pub totalOutcome : Total → Outcome ℕ
+totalOutcome (total.Bytes b) = accepted b
+totalOutcome (total.Refused r) = refused (refusal r)
+
+-- an open picture that calls can make
+unfoldable pub proper : Opened → ℕ → Bool
+proper o b = ((widthOk (o .width) && heightOk (o .height)) && leb (o .rows) (o .height)) && eqb (o .rows * size (o .width)) b
+
+-- a phase that a caller kept with these bytes: any other open one is taken as fresh
+abbrev pub resumed : Phase → ℕ → Phase
+resumed Fresh b = Fresh
+resumed (Open o) b = cond (proper o b) (Open o) Fresh
+resumed Closed b = Closed
 
 -- open with these, no row accepted
-abbrev pub begun : System → ℕ → ℕ → Opened
-begun y w h = record { system = y; width = w; height = h; rows = 0 }
+abbrev pub begun : System → Size → Opened
+begun y s = record { system = y; width = s .width; height = s .height; rows = 0 }
 
 -- open in a known system
 abbrev pub beginIn : System → ℕ → ℕ → Outcome Phase
-beginIn y w h = require (widthOk w) 2 (require (heightOk h) 3 (accepted (Open (begun y w h))))
+beginIn y w h = sized w h and-then λ s. accepted (Open (begun y s))
 
 unfoldable pub begin : ℕ → ℕ → ℕ → Outcome Phase
 begin n w h = named n and-then λ y. beginIn y w h
@@ -59,7 +75,7 @@ openFrom (Open o) n w h = refused 21
 openFrom Closed n w h = begin n w h
 
 abbrev pub opening : Picture → ℕ → ℕ → ℕ → Outcome Picture
-opening p n w h = around (openFrom (p .phase) n w h)
+opening p n w h = around (openFrom (p .phase) n w h) 0
 
 -- one row more
 abbrev pub more : Opened → Opened
@@ -78,8 +94,14 @@ rowFrom Fresh lights room = refused 22
 rowFrom (Open o) lights room = rowOpen o lights room
 rowFrom Closed lights room = refused 22
 
+-- the bytes with a row's block more; that a u32 holds the sum is a theorem, and one that it did not hold would stay at the greatest
+abbrev pub withBlock : Phase → ℕ → ℕ
+withBlock Fresh b = b
+withBlock (Open o) b = min 4294967295 (b + size (o .width))
+withBlock Closed b = b
+
 abbrev pub rowing : Picture → List ℕ → ℕ → Outcome Picture
-rowing p lights room = around (rowFrom (p .phase) lights room)
+rowing p lights room = around (rowFrom (p .phase) lights room) (withBlock (p .phase) (p .bytes))
 
 -- the buffer as a row leaves it: the block at the front where it is accepted, and later bytes as they were
 abbrev pub bufferBy : Outcome Phase → Opened → List ℕ → List ℕ → List ℕ
@@ -101,7 +123,7 @@ closeFrom (Open o) = require (eqb (o .rows) (o .height)) 24 (accepted Closed)
 closeFrom Closed = refused 22
 
 abbrev pub closing : Picture → Outcome Picture
-closing p = around (closeFrom (p .phase))
+closing p = around (closeFrom (p .phase)) (p .bytes)
 
 -- what the answer says
 abbrev pub pictureOutcome : Change → Outcome Picture

@@ -1,33 +1,13 @@
-use mathlib.Core.Path.{sym, _∙_}
-use borrow.Author.Tests.{not-true, not-false}
+use mathlib.Core.Path.{sym}
 use borrow.Author.Needs.{needs}
-use Rattle.systems.proofs.Ranges.{in-range}
 use Rattle.picture.proofs.begin_in.Statement.{statement}
 use Rattle.picture.proofs.begin_in.Tie as tie
 
 returns : tie.Need-returns
-returns c = rw (sym (c .before .is-size .ensures) ∙ not-true _ (c .if1 .taken))
+returns c = rw (sym (c .before .before .before .sized .ensures), c .before .s .given .1)
 
 returns-2 : tie.Need-returns-2
-returns-2 c =
-    let width = c .before .before in
-    rw (sym (width .before .is-size .ensures) ∙ not-false _ (width .if1 .left), sym (c .before .is-size2 .ensures) ∙ not-true _ (c .if2 .taken))
-
-cast-samples : tie.Need-cast-samples
-cast-samples c =
-    let width = c .before .before in
-    let w = in-range (record { low = 1; high = 7680 }) (width .before .before .args .width) (sym (width .before .is-size .ensures) ∙ not-false _ (width .if1 .left)) in
-    search needs
-
-cast-most : tie.Need-cast-most
-cast-most c =
-    let h = in-range (record { low = 1; high = 4320 }) (c .before .before .before .before .args .height) (sym (c .before .is-size2 .ensures) ∙ not-false _ (c .if2 .left)) in
-    search needs
-
-returns-3 : tie.Need-returns-3
-returns-3 c =
-    let width = c .before .before in
-    rw (sym (width .before .is-size .ensures) ∙ not-false _ (width .if1 .left), sym (c .before .is-size2 .ensures) ∙ not-false _ (c .if2 .left))
+returns-2 c = rw (sym (c .before .before .before .sized .ensures), c .before .r .given .1)
 
 pub begin-in-spec : {M : Type 1} → statement M
-begin-in-spec = tie.close (tie.spec (λ c κs. search needs) returns (λ c κs. search needs) returns-2 cast-samples cast-most returns-3)
+begin-in-spec = tie.close (tie.spec (λ c κs. search needs) (λ c. search needs) (λ c. search needs) returns returns-2)

@@ -7,7 +7,7 @@ use Rattle.picture.proofs.resumed.Statement.{statement}
 use Rattle.picture.proofs.resumed.Tie as tie
 
 returns : tie.Need-returns
-returns c = of-either (c .before .args .phase) (c .match .keys1) (λ (f : Phase). f ≡ resumed f) refl refl
+returns c = of-either (c .before .args .phase) (c .match .keys1) (λ (f : Phase). f ≡ resumed f (c .before .args .bytes)) refl refl
 
 returns-2 : tie.Need-returns-2
 returns-2 c = simp (c .before .before .before .phase .given .1, sym (c .before .is-proper .ensures) ∙ c .if1 .taken)

@@ -66,7 +66,7 @@ loop-again : tie.Need-loop-again Inv-loop μ-loop
 loop-again c =
     let t = c .before .before .before .before .before .before .before .before in
     let l = t .before .before .before .before .loop in
-    let n : (l .at + t .size .result) - (l .at + 26) ≡ sizeAt (now (t .before .before .before .before .before .before .before .before .before .before .args .calls)) (l .at) - 26 = omega (arith, sized t) in
+    let n : (l .at + t .size .result) - (l .at + 30) ≡ sizeAt (now (t .before .before .before .before .before .before .before .before .before .before .args .calls)) (l .at) - 30 = omega (arith, sized t) in
     (search needs, one-more (l .inv .1) _ (within t) (sized t) (rw (n, t .before .call-at .ensures) at (c .before .before .before .before .with .ensures)))
 
 sub-ended : tie.Need-sub-ended Inv-loop μ-loop

@@ -7,7 +7,8 @@ use Rattle.picture.proofs.Picture.row.Tie as tie
 returns : tie.Need-returns
 returns c =
     let made = c .before .before .before .row-from .ensures in
-    (c .around .ensures ∙ ap around (made .0), made .1)
+    let bytes = c .before .before .before .before .before .with-block .ensures in
+    (c .around .ensures ∙ (λ i. around (made .0 i) (bytes i)), made .1)
 
 pub row-spec : {M : Type 1} → statement M
-row-spec = tie.close (tie.spec (λ c κs. search needs) (λ c κs. search needs) (λ c. search needs) returns)
+row-spec = tie.close (tie.spec (λ c κs. search needs) (λ c κs. search needs) (λ c κs. search needs) (λ c. search needs) returns)

@@ -1,0 +1,48 @@
+-- The book's sum is that of the lengths of the blocks since the last accepted open.
+-- Assumes nothing.
+use Prim.Native.Nat.{ℕ, _+_}
+use mathlib.Core.Path.{_≡_, refl, ap, _∙_}
+use mathlib.Core.Bool.{Bool, true, false}
+use mathlib.Core.List.{List, [], _∷_, _++_}
+use native.Mathlib.Nat.{zero-add}
+use native.Mathlib.Omega.{arith}
+use Rattle.picture.specs.Book.{Call, opens, rows, closes, State, fresh, Entry, accepts, enters, choose, next, nextSum, entriesFrom, sumFrom}
+use Rattle.picture.proofs.Agreement.{split}
+use Rattle.picture.proofs.Claims.{stateFrom, lengths, isOpening, NoOpening, SumSince}
+
+lengths-append : (es fs : List Entry) → lengths (es ++ fs) ≡ lengths es + lengths fs
+unfolding lengths
+lengths-append [] fs = omega arith
+lengths-append (e ∷ es) fs = omega (arith, lengths-append es fs)
+
+-- a call that is no accepted open adds its entry's block
+adds : (b : ℕ) (st : State) (c : Call) → isOpening st c ≡ false → nextSum b st c ≡ b + lengths (choose (accepts st c) (enters st c) [])
+unfolding lengths
+adds b st (opens n w h) e = simp e (omega arith)
+adds b st (rows lights room) e = split (accepts st (rows lights room)) (λ t. simp t (omega arith)) (λ t. simp t (omega arith))
+adds b st closes e = split (accepts st closes) (λ t. simp t (omega arith)) (λ t. simp t (omega arith))
+
+sum-adds : (b : ℕ) (st : State) (cs : List Call) → NoOpening st cs → sumFrom b st cs ≡ b + lengths (entriesFrom st cs)
+unfolding sumFrom entriesFrom NoOpening lengths
+sum-adds b st [] none = omega arith
+sum-adds b st (c ∷ cs) none = omega (arith, adds b st c (none .0), sum-adds (nextSum b st c) (next st c) cs (none .1), lengths-append (choose (accepts st c) (enters st c) []) (entriesFrom (next st c) cs))
+
+-- an accepted open begins anew, whatever was there before
+begins-anew : (b n w h : ℕ) (st : State) (before cs : List Call) → accepts (stateFrom st before) (opens n w h) ≡ true
+    → sumFrom b st (before ++ opens n w h ∷ cs) ≡ sumFrom 0 (next (stateFrom st before) (opens n w h)) cs
+unfolding sumFrom stateFrom
+begins-anew b n w h st [] cs e = ap (λ (t : Bool). sumFrom (choose t 0 b) (next st (opens n w h)) cs) e
+begins-anew b n w h st (c ∷ before) cs e = begins-anew (nextSum b st c) n w h (next st c) before cs e
+
+stays-0 : (cs : List Call) → NoOpening fresh cs → sumFrom 0 fresh cs ≡ 0
+unfolding sumFrom NoOpening
+stays-0 [] none = refl
+stays-0 (opens n w h ∷ cs) none = simp (none .0) (stays-0 cs (simp (none .0) at (none .1)))
+stays-0 (rows lights room ∷ cs) none = stays-0 cs (none .1)
+stays-0 (closes ∷ cs) none = stays-0 cs (none .1)
+
+pub sum-since : SumSince
+sum-since = record {
+  before-any = stays-0;
+  since-last = λ b n w h st before cs e none. begins-anew b n w h st before cs e ∙ sum-adds 0 (next (stateFrom st before) (opens n w h)) cs none ∙ zero-add _;
+}

@@ -18,7 +18,6 @@ use Rattle.picture.specs.declared.Phase.the-variants.{Fresh, Open, Close
 use Rattle.picture.specs.declared.Picture.{Picture}
 use Rattle.picture.specs.declared.Change.{Change}
 use Rattle.picture.specs.declared.Change.the-variants as change
-use Rattle.picture.specs.declared.Size.{Size}
 use Rattle.picture.specs.declared.Total.{Total}
 use Rattle.picture.specs.declared.Total.the-variants as total
 use Rattle.picture.specs.Picture.{at, around, pictureOutcome, heightOk, sized, totalBytes, totalOutcome, begin, openFrom, rowOpen, rowFrom, closeFrom}

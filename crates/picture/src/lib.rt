@@ -1,5 +1,5 @@
-// A picture taken row by row (document 01, 'Picture'). proofs/Demand.antt has the theorem over every list of these calls
-// (demand 3), and docs/THEOREM.md explains it.
+// A picture taken row by row (document 01, 'Picture'). proofs/Demand.antt has the theorems over every list of these calls
+// (demand 3, and request 2026-06 of the bytes), and docs/THEOREM.md explains them.
 use block::size;
 use row::write_row;
 use systems::MOST_ROWS;

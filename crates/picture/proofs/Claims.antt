@@ -138,15 +138,22 @@ unfoldable pub lengths : List Entry → ℕ
 lengths [] = 0
 lengths (e ∷ es) = 9 + 6 * e .width + lengths es
 
--- no open among the calls is accepted
+-- the call is an open that is accepted
 abbrev pub isOpening : State → Call → Bool
 isOpening st (opens n w h) = accepts st (opens n w h)
 isOpening st (rows lights room) = false
 isOpening st closes = false
 
+-- no open among the calls is accepted
 unfoldable pub NoOpening : State → List Call → Type 0
 NoOpening st [] = Unit {0}
 NoOpening st (c ∷ cs) = (isOpening st c ≡ false) × NoOpening (next st c) cs
+
+-- where the last accepted open of a list stands
+pub data LastOpening (st : State) : List Call → Type 0 where
+  nowhere : (cs : List Call) → NoOpening st cs → LastOpening st cs
+  after : (n w h : ℕ) (before cs : List Call) → accepts (stateFrom st before) (opens n w h) ≡ true → NoOpening (next (stateFrom st before) (opens n w h)) cs
+      → LastOpening st (before ++ opens n w h ∷ cs)
 
 -- the book's sum is what the request calls it
 pub record SumSince : Type 0 where
@@ -155,6 +162,8 @@ pub record SumSince : Type 0 where
   -- after one, if it was the last, the lengths of the blocks of the entries since
   pub since-last : (b n w h : ℕ) (st : State) (before cs : List Call) → accepts (stateFrom st before) (opens n w h) ≡ true
       → NoOpening (next (stateFrom st before) (opens n w h)) cs → sumFrom b st (before ++ opens n w h ∷ cs) ≡ lengths (entriesFrom (next (stateFrom st before) (opens n w h)) cs)
+  -- every list is one of the two
+  pub either : (st : State) (cs : List Call) → LastOpening st cs
 
 -- a width of 1 to 7680, a height of 1 to 4320, no more rows than the height, and the bytes of so many blocks
 pub record Sized (o : Opened) (b : ℕ) : Type 0 where

@@ -8,7 +8,7 @@ use native.Mathlib.Nat.{zero-add}
 use native.Mathlib.Omega.{arith}
 use Rattle.picture.specs.Book.{Call, opens, rows, closes, State, fresh, Entry, accepts, enters, choose, next, nextSum, entriesFrom, sumFrom}
 use Rattle.picture.proofs.Agreement.{split}
-use Rattle.picture.proofs.Claims.{stateFrom, lengths, isOpening, NoOpening, SumSince}
+use Rattle.picture.proofs.Claims.{stateFrom, lengths, isOpening, NoOpening, LastOpening, nowhere, after, SumSince}
 
 lengths-append : (es fs : List Entry) → lengths (es ++ fs) ≡ lengths es + lengths fs
 unfolding lengths
@@ -41,8 +41,22 @@ stays-0 (opens n w h ∷ cs) none = simp (none .0) (stays-0 cs (simp (none .0) a
 stays-0 (rows lights room ∷ cs) none = stays-0 cs (none .1)
 stays-0 (closes ∷ cs) none = stays-0 cs (none .1)
 
+-- a call, and then a list whose last accepted open is found
+found-on : (st : State) (c : Call) {cs : List Call} → LastOpening (next st c) cs → LastOpening st (c ∷ cs)
+unfolding NoOpening stateFrom
+found-on st c (after n w h before cs e none) = after n w h (c ∷ before) cs e none
+found-on st (opens n w h) (nowhere cs none) = split (accepts st (opens n w h)) (λ t. after n w h [] cs t none) (λ t. nowhere (opens n w h ∷ cs) (t, none))
+found-on st (rows lights room) (nowhere cs none) = nowhere (rows lights room ∷ cs) (refl, none)
+found-on st closes (nowhere cs none) = nowhere (closes ∷ cs) (refl, none)
+
+found : (st : State) (cs : List Call) → LastOpening st cs
+unfolding NoOpening
+found st [] = nowhere [] tt
+found st (c ∷ cs) = found-on st c (found (next st c) cs)
+
 pub sum-since : SumSince
 sum-since = record {
   before-any = stays-0;
   since-last = λ b n w h st before cs e none. begins-anew b n w h st before cs e ∙ sum-adds 0 (next (stateFrom st before) (opens n w h)) cs none ∙ zero-add _;
+  either = found;
 }

@@ -149,19 +149,22 @@ unfoldable pub NoOpening : State → List Call → Type 0
 NoOpening st [] = Unit {0}
 NoOpening st (c ∷ cs) = (isOpening st c ≡ false) × NoOpening (next st c) cs
 
+-- after the calls before, c is an open that is accepted, and none among the calls cs that follow it is
+abbrev pub IsLast : State → List Call → Call → List Call → Type 0
+IsLast st before c cs = (isOpening (stateFrom st before) c ≡ true) × NoOpening (next (stateFrom st before) c) cs
+
 -- where the last accepted open of a list stands
 pub data LastOpening (st : State) : List Call → Type 0 where
   nowhere : (cs : List Call) → NoOpening st cs → LastOpening st cs
-  after : (n w h : ℕ) (before cs : List Call) → accepts (stateFrom st before) (opens n w h) ≡ true → NoOpening (next (stateFrom st before) (opens n w h)) cs
-      → LastOpening st (before ++ opens n w h ∷ cs)
+  at-call : (before : List Call) (c : Call) (cs : List Call) → IsLast st before c cs → LastOpening st (before ++ c ∷ cs)
 
 -- the book's sum is what the request calls it
 pub record SumSince : Type 0 where
   -- 0 before any accepted open
   pub before-any : (cs : List Call) → NoOpening fresh cs → sumFrom 0 fresh cs ≡ 0
-  -- after one, if it was the last, the lengths of the blocks of the entries since
-  pub since-last : (b n w h : ℕ) (st : State) (before cs : List Call) → accepts (stateFrom st before) (opens n w h) ≡ true
-      → NoOpening (next (stateFrom st before) (opens n w h)) cs → sumFrom b st (before ++ opens n w h ∷ cs) ≡ lengths (entriesFrom (next (stateFrom st before) (opens n w h)) cs)
+  -- after the last one, the lengths of the blocks of the entries since
+  pub since-last : (b : ℕ) (st : State) (before : List Call) (c : Call) (cs : List Call) → IsLast st before c cs
+      → sumFrom b st (before ++ c ∷ cs) ≡ lengths (entriesFrom (next (stateFrom st before) c) cs)
   -- every list is one of the two
   pub either : (st : State) (cs : List Call) → LastOpening st cs
 

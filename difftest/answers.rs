@@ -1,6 +1,6 @@
 //! The answers of include/ferghulta.h, and the exact outcomes in that form: a refusal's other numbers are 0.
-use crate::exact::{block_bytes, system, Level, Opened, Outcome, Picture as State, Row, MOST_ROWS, MOST_SAMPLES};
-use std::mem::size_of;
+use crate::exact::{block_bytes, system, Clips, Level, Opened, Outcome, Picture as State, Row, MOST_ROWS, MOST_SAMPLES};
+use std::mem::{offset_of, size_of};
 
 #[repr(C)]
 #[derive(Debug, PartialEq)]
@@ -42,13 +42,22 @@ pub struct CodesAnswer {
     codes: [u16; 3],
 }
 
-/// Words and how many were moved, or codes and how many were clipped.
+/// Words and how many were moved, or codes and the former count of clips.
 #[repr(C)]
 #[derive(Debug, PartialEq)]
 pub struct CountedAnswer {
     pub refusal: u32,
     pub count: u32,
     pub triple: [u16; 3],
+}
+
+#[repr(C)]
+#[derive(Debug, PartialEq)]
+pub struct DecodedAnswer {
+    pub refusal: u32,
+    pub low: u16,
+    pub high: u16,
+    pub codes: [u16; 3],
 }
 
 #[repr(C)]
@@ -64,7 +73,8 @@ pub struct LevelAnswer {
 pub struct BlockAnswer {
     pub refusal: u32,
     pub system: u32,
-    pub clipped: u32,
+    pub low: u16,
+    pub high: u16,
     pub row: u16,
     pub samples: u16,
 }
@@ -96,6 +106,10 @@ pub struct TotalAnswer {
 
 // The header's layout: no byte of a picture or of its answer is padding.
 const _: () = assert!(size_of::<Picture>() == 12 && size_of::<PictureAnswer>() == 16 && size_of::<TotalAnswer>() == 8);
+// Nor is one between the clips and their neighbours.
+const _: () = assert!(size_of::<DecodedAnswer>() == 16 && size_of::<BlockAnswer>() == 16);
+const _: () = assert!(offset_of!(DecodedAnswer, low) == 4 && offset_of!(DecodedAnswer, codes) == 8);
+const _: () = assert!(offset_of!(BlockAnswer, low) == 8 && offset_of!(BlockAnswer, row) == 12);
 
 /// The refusal's number, or 0, and the values, or zeros.
 fn parts<T: Default>(outcome: Outcome<T>) -> (u32, T) {
@@ -134,6 +148,18 @@ impl From<Outcome<([u16; 3], u32)>> for CountedAnswer {
             refusal,
             count,
             triple,
+        }
+    }
+}
+
+impl From<Outcome<([u16; 3], Clips)>> for DecodedAnswer {
+    fn from(outcome: Outcome<([u16; 3], Clips)>) -> DecodedAnswer {
+        let (refusal, (codes, Clips { low, high })) = parts(outcome);
+        DecodedAnswer {
+            refusal,
+            low,
+            high,
+            codes,
         }
     }
 }
@@ -191,14 +217,15 @@ impl From<Outcome<Level>> for LevelAnswer {
 
 impl From<&Outcome<Row>> for BlockAnswer {
     fn from(outcome: &Outcome<Row>) -> BlockAnswer {
-        let (refusal, (system, clipped, row, samples)) = match outcome {
-            Ok(row) => (0, (row.system, row.clipped, row.number, row.samples)),
-            Err(refusal) => (*refusal, (0, 0, 0, 0)),
+        let (refusal, (system, clips, row, samples)) = match outcome {
+            Ok(row) => (0, (row.system, row.clips, row.number, row.samples)),
+            Err(refusal) => (*refusal, (0, Clips::default(), 0, 0)),
         };
         BlockAnswer {
             refusal,
             system,
-            clipped,
+            low: clips.low,
+            high: clips.high,
             row,
             samples,
         }

@@ -1,12 +1,14 @@
-//! The bench values of document 01 and of requests 2026-03 to 2026-06, of the exact program itself.
+//! The bench values of document 01 and of requests 2026-03 to 2026-07, of the exact program itself.
 use crate::exact::*;
 
 pub fn check() {
     lights();
     signals();
     triples();
+    clips();
     rules();
     blocks();
+    clips_of_rows();
     levels();
     totals();
 }
@@ -38,11 +40,52 @@ fn triples() {
         assert_eq!(words(1, [16, 235, 16]), Ok(([173, 42, 26], 0)));
         assert_eq!(words(3, [940, 64, 64]), Ok(([294, 387, 960], 0)));
     }
-    assert_eq!(codes_of_words(1, [63, 102, 240]), Ok(([235, 17, 16], 0)));
-    assert_eq!(codes_of_words(1, [32, 240, 118]), Ok(([17, 16, 235], 0)));
-    assert_eq!(codes_of_words(1, [16, 240, 240]), Ok(([188, 1, 219], 1)));
-    assert_eq!(codes_of_words(1, [15, 128, 128]), Ok(([15, 15, 15], 0)));
+    decoded([63, 102, 240], [235, 17, 16], 0, 0);
+    decoded([32, 240, 118], [17, 16, 235], 0, 0);
+    decoded([16, 240, 240], [188, 1, 219], 1, 0);
+    decoded([15, 128, 128], [15, 15, 15], 0, 0);
     assert_eq!(codes_of_words(1, [0, 128, 128]), Err(refusal::CODE));
+    assert_eq!(formerly_decoded(1, [0, 128, 128]), Err(refusal::CODE));
+}
+
+/// In system 1; the former count is the sum of both.
+fn decoded(words: [u16; 3], codes: [u16; 3], low: u16, high: u16) {
+    assert_eq!(codes_of_words(1, words), Ok((codes, Clips { low, high })));
+    assert_eq!(formerly_decoded(1, words), Ok((codes, u32::from(low + high))));
+}
+
+/// Worked out by hand, here and below; beside clipped codes stand R, G and B before clipping.
+fn clips() {
+    decoded([180, 1, 1], [1, 254, 1], 2, 1); // −16 261 −50
+    decoded([75, 254, 254], [254, 1, 254], 1, 2); // 269 −6 304
+    decoded([27, 254, 1], [1, 62, 254], 1, 1); // −169 62 256
+    decoded([1, 1, 1], [1, 82, 1], 2, 0); // −195 82 −229
+    decoded([254, 254, 254], [254, 173, 254], 0, 2); // 448 173 483
+    on_the_ends();
+    for system in &SYSTEMS {
+        let range = system.video_data();
+        let (first, last) = (*range.start(), *range.end());
+        let green = codes_of_words(system.number, [180 * first, first, first]);
+        assert_eq!(green, Ok(([first, last, first], Clips { low: 2, high: 1 })));
+    }
+}
+
+/// Greys on the ends; then R, G and B in turn on the lower end and one below it, on the upper end and one above it.
+fn on_the_ends() {
+    decoded([1, 128, 128], [1, 1, 1], 0, 0);
+    decoded([254, 128, 128], [254, 254, 254], 0, 0);
+    decoded([3, 128, 127], [1, 3, 3], 0, 0);
+    decoded([2, 128, 127], [1, 2, 2], 1, 0); // 0 2 2
+    decoded([252, 128, 129], [254, 252, 252], 0, 0);
+    decoded([253, 128, 129], [254, 253, 253], 0, 1); // 255 253 253
+    decoded([2, 128, 131], [7, 1, 2], 0, 0);
+    decoded([2, 128, 132], [8, 1, 2], 1, 0); // 8 0 2
+    decoded([253, 128, 125], [248, 254, 253], 0, 0);
+    decoded([253, 128, 124], [247, 254, 253], 0, 1); // 247 255 253
+    decoded([3, 127, 128], [3, 3, 1], 0, 0);
+    decoded([2, 127, 128], [2, 2, 1], 1, 0); // 2 2 0
+    decoded([252, 129, 128], [252, 252, 254], 0, 0);
+    decoded([253, 129, 128], [253, 253, 254], 0, 1); // 253 253 255
 }
 
 /// Blue beyond 256s, yellow below 0, blue between nominal and the end of video data, and a grey above white, worked out by hand.
@@ -72,12 +115,19 @@ fn blocks() {
     #[rustfmt::skip]
     assert_eq!(grey, [0x01, 0, 0, 0x01, 0, 0xEB, 0, 0x01, 0, 0x80, 0, 0x01, 0, 0x80, 0]);
     let row = read_block(&grey, 3).unwrap();
-    assert_eq!(
-        (row.system, row.number, row.samples, row.clipped),
-        (1, 0, 1, 0)
-    );
+    assert_eq!((row.system, row.number, row.samples), (1, 0, 1));
+    assert_eq!(row.clips, Clips { low: 0, high: 0 });
     assert_eq!(row.codes, [235; 3]);
     assert_eq!(block_bytes(MOST_SAMPLES), 46089);
+}
+
+/// Samples with two low and one high, with one low and two high, and with two low and one high again; then the first, 7680 times.
+fn clips_of_rows() {
+    let three = block(1, 0, [&[180, 75, 180], &[1, 254, 1], &[1, 254, 1]]);
+    assert_eq!(read_block(&three, 9).unwrap().clips, Clips { low: 5, high: 4 });
+    let widest = block(1, 0, [&[180; MOST_SAMPLES], &[1; MOST_SAMPLES], &[1; MOST_SAMPLES]]);
+    let row = read_block(&widest, 3 * MOST_SAMPLES).unwrap();
+    assert_eq!(row.clips, Clips { low: 15360, high: 7680 });
 }
 
 /// 700·(1 − 16) is −10500, and −48·219 is −10512.

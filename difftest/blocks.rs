@@ -1,5 +1,6 @@
 //! Block reading: whole and damaged blocks into slices that are long enough or not.
 use crate::answers::BlockAnswer;
+use crate::clips;
 use crate::library;
 use crate::exact::{self, System, MOST_SAMPLES, SYSTEMS};
 use crate::lent::Lent;
@@ -35,7 +36,7 @@ pub fn hexadecimal(bytes: &[u8]) -> String {
 
 // ---- blocks
 
-fn any_width(random: &mut Pseudorandom) -> usize {
+pub fn any_width(random: &mut Pseudorandom) -> usize {
     match random.below(1000) {
         0 => MOST_SAMPLES,
         1 => 1 + random.below(MOST_SAMPLES),
@@ -58,11 +59,17 @@ fn any_section(system: &System, highest: u16, width: usize, random: &mut Pseudor
     (0..width).map(|_| word()).collect()
 }
 
-fn block_of_width(system: &System, width: usize, random: &mut Pseudorandom) -> Vec<u8> {
+/// A row's words: each section by itself, or samples that clip in any way.
+fn any_sections(system: &System, width: usize, random: &mut Pseudorandom) -> [Vec<u16>; 3] {
+    if random.once_in(4) {
+        return clips::sections(&clips::any_row(system, width, random));
+    }
     let top = system.highest_difference();
-    let y = any_section(system, system.highest(), width, random);
-    let cb = any_section(system, top, width, random);
-    let cr = any_section(system, top, width, random);
+    [system.highest(), top, top].map(|highest| any_section(system, highest, width, random))
+}
+
+fn block_of_width(system: &System, width: usize, random: &mut Pseudorandom) -> Vec<u8> {
+    let [y, cb, cr] = any_sections(system, width, random);
     let anywhere = random.below(exact::MOST_ROWS) as u16;
     let number = random.pick(&[0, 1, 255, 256, 4318, 4319, anywhere, anywhere]);
     exact::block(system.number as u8, number, [&y, &cb, &cr])
@@ -173,6 +180,11 @@ pub fn read_block(effort: &Effort, random: &mut Pseudorandom) -> bool {
         for width in 1..=3 {
             let block = block_of_width(system, width, random);
             around(&mut tally, effort, &block, random);
+        }
+    }
+    for system in SYSTEMS.iter().step_by(effort.stride) {
+        for row in clips::widest_rows(system, random) {
+            compare(&mut tally, &clips::block(system, &row), 3 * MOST_SAMPLES, random);
         }
     }
     for _ in 0..5 * effort.cases {

@@ -1,5 +1,6 @@
 //! Document 01 in exact arithmetic: whole numbers only, written from the document alone, nothing shared with the library.
-//! Which codes and words are accepted, and the rules on words, are those of request 2026-03; their order is request 2026-04's.
+//! Which codes and words are accepted, and the rules on words, are those of request 2026-03; their order is request 2026-04's, and
+//! clips are counted as request 2026-07 has it.
 //! A call answers its values, or `Err` with the refusal's number.
 use crate::natural::Natural;
 use std::ops::RangeInclusive;
@@ -386,19 +387,20 @@ fn formerly_trimmed_in(system: &System, codes: [u16; 3]) -> ([u16; 3], u32) {
     })
 }
 
-fn system_of_codes(number: u32, codes: [u16; 3]) -> Outcome<&'static System> {
+/// The system of codes or words, which have to be video data.
+fn system_of_triple(number: u32, triple: [u16; 3]) -> Outcome<&'static System> {
     let system = system(number)?;
-    require(are_all_in(system.video_data(), codes), refusal::CODE)?;
+    require(are_all_in(system.video_data(), triple), refusal::CODE)?;
     Ok(system)
 }
 
 pub fn words_of_codes(number: u32, encoding: Encoding, codes: [u16; 3]) -> Outcome<([u16; 3], u32)> {
-    let system = system_of_codes(number, codes)?;
+    let system = system_of_triple(number, codes)?;
     Ok(encoded_in(system, encoding, codes))
 }
 
 pub fn formerly_trimmed(number: u32, codes: [u16; 3]) -> Outcome<([u16; 3], u32)> {
-    let system = system_of_codes(number, codes)?;
+    let system = system_of_triple(number, codes)?;
     Ok(formerly_trimmed_in(system, codes))
 }
 
@@ -419,17 +421,44 @@ fn code_values(system: &System, words: [u16; 3]) -> [Ratio; 3] {
     [direct(cr, kr), green, direct(cb, kb)]
 }
 
-/// The codes of words, and how many of them were clipped to video data.
-fn decoded_in(system: &System, words: [u16; 3]) -> ([u16; 3], u32) {
+/// 'The components clipped low and those clipped high as two counts.'
+#[derive(Clone, Copy, Debug, Default, PartialEq)]
+pub struct Clips {
+    pub low: u16,
+    pub high: u16,
+}
+
+/// R, G and B of words, before clipping.
+fn components(system: &System, words: [u16; 3]) -> [i128; 3] {
+    code_values(system, words).map(int)
+}
+
+/// The codes of words: components below video data are clipped low, those above it high, and those on an end are not clipped.
+fn decoded_in(system: &System, words: [u16; 3]) -> ([u16; 3], Clips) {
+    let (first, last) = (system.scale, 255 * system.scale - 1);
+    let components = components(system, words);
+    let clips = Clips {
+        low: components.iter().filter(|&&c| c < first).count() as u16,
+        high: components.iter().filter(|&&c| c > last).count() as u16,
+    };
+    (components.map(|c| c.clamp(first, last) as u16), clips)
+}
+
+/// Decoding before request 2026-07, to compare: the codes, and how many components clipping changed, 'the former total'.
+fn formerly_decoded_in(system: &System, words: [u16; 3]) -> ([u16; 3], u32) {
     let range = system.video_data();
-    let components = code_values(system, words).map(int);
+    let components = components(system, words);
     brought(components, components.map(|c| nearest_end(&range, c)))
 }
 
-pub fn codes_of_words(number: u32, words: [u16; 3]) -> Outcome<([u16; 3], u32)> {
-    let system = system(number)?;
-    require(are_all_in(system.video_data(), words), refusal::CODE)?;
+pub fn codes_of_words(number: u32, words: [u16; 3]) -> Outcome<([u16; 3], Clips)> {
+    let system = system_of_triple(number, words)?;
     Ok(decoded_in(system, words))
+}
+
+pub fn formerly_decoded(number: u32, words: [u16; 3]) -> Outcome<([u16; 3], u32)> {
+    let system = system_of_triple(number, words)?;
+    Ok(formerly_decoded_in(system, words))
 }
 
 // ---- 'Row block'
@@ -447,7 +476,7 @@ pub struct Row {
     pub system: u32,
     pub number: u16,
     pub samples: u16,
-    pub clipped: u32,
+    pub clips: Clips,
     pub codes: Vec<u16>,
 }
 
@@ -494,19 +523,21 @@ pub fn read_block(bytes: &[u8], places: usize) -> Outcome<Row> {
     Ok(row_of_words(system, number, &words))
 }
 
+/// 'Block reading sums both.'
 fn row_of_words(system: &System, number: u16, words: &[[u16; 3]]) -> Row {
     let mut codes = Vec::new();
-    let mut clipped = 0;
+    let mut clips = Clips::default();
     for &sample in words {
-        let (decoded, beyond) = decoded_in(system, sample);
+        let (decoded, of_sample) = decoded_in(system, sample);
         codes.extend(decoded);
-        clipped += beyond;
+        clips.low += of_sample.low;
+        clips.high += of_sample.high;
     }
     Row {
         system: system.number,
         number,
         samples: words.len() as u16,
-        clipped,
+        clips,
         codes,
     }
 }

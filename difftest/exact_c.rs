@@ -87,7 +87,7 @@ pub extern "C" fn exact_trimmed_words_of_codes(system: u32, codes: Triple) -> Co
 }
 
 #[no_mangle]
-pub extern "C" fn exact_codes_of_words(system: u32, words: Triple) -> CountedAnswer {
+pub extern "C" fn exact_codes_of_words(system: u32, words: Triple) -> DecodedAnswer {
     exact::codes_of_words(system, words.into()).into()
 }
 

@@ -199,7 +199,7 @@ static void triples(struct list *list)
     AGREE(TRIMMED_WORDS_OF_CODES, trimmed, exactly_trimmed, words);
     agree(TRIMMED_WORDS_OF_CODES, "moved", &trimmed.moved, &exactly_trimmed.moved, sizeof trimmed.moved);
     AGREE(CODES_OF_WORDS, decoded, exactly_decoded, codes);
-    agree(CODES_OF_WORDS, "clipped", &decoded.clipped, &exactly_decoded.clipped, sizeof decoded.clipped);
+    agree(CODES_OF_WORDS, "clips", &decoded.clips, &exactly_decoded.clips, sizeof decoded.clips);
 }
 
 static void levels(struct list *list)

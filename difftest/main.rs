@@ -4,6 +4,7 @@
 mod answers;
 mod bench;
 mod blocks;
+mod clips;
 mod exact;
 mod lent;
 mod library;
@@ -91,6 +92,7 @@ fn compare(effort: &Effort, seed: u64) -> bool {
         & values::trim_before_guard(effort, random)
         & values::levels(effort, random)
         & pictures::total_bytes(effort, random)
+        & clips::clipping_low_and_high(effort, random)
 }
 
 /// The form, and cases and seed where they are given.

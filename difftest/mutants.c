@@ -241,28 +241,74 @@ ferghulta_level_answer ferghulta_level_of_difference(uint32_t system, uint16_t w
 /* ---- codes and blocks */
 
 /* Clips so many codes to nominal; answers how many are beyond it. */
-static uint32_t clip_to_nominal(uint32_t system, uint16_t *codes, size_t count)
+static ferghulta_clips clip_to_nominal(uint32_t system, uint16_t *codes, size_t count)
 {
-    uint32_t clipped = 0;
+    ferghulta_clips clips = { 0, 0 };
     for (size_t j = 0; j < count; j++) {
-        clipped += nominal(system, codes[j]) != codes[j];
+        clips.low += codes[j] < nominal(system, codes[j]);
+        clips.high += codes[j] > nominal(system, codes[j]);
         codes[j] = nominal(system, codes[j]);
     }
-    return clipped;
+    return clips;
+}
+
+static uint16_t how_many(const uint16_t *codes, size_t count, int code)
+{
+    uint16_t found = 0;
+    for (size_t j = 0; j < count; j++)
+        found += codes[j] == code;
+    return found;
+}
+
+/* The first of the nine below that are of a triple, and the first of those that are of a row. */
+enum { OF_TRIPLE = 69, OF_ROW = 78 };
+
+/* Wrong counts; the codes are the right ones. */
+static ferghulta_clips spoilt_clips(int first, uint32_t system, ferghulta_clips clips, const uint16_t *codes, size_t count)
+{
+    uint16_t total = clips.low + clips.high;
+    if (mutant(first))
+        return (ferghulta_clips){ clips.high, clips.low }; /* exchanged */
+    if (mutant(first + 1))
+        clips.high = 0; /* lost */
+    if (mutant(first + 2))
+        return (ferghulta_clips){ total, 0 }; /* the total as low */
+    if (mutant(first + 3))
+        return (ferghulta_clips){ total, total }; /* the total as both */
+    if (mutant(first + 4))
+        clips.low = how_many(codes, count, scale(system)); /* on the lower end too */
+    if (mutant(first + 5))
+        clips.high = how_many(codes, count, 255 * scale(system) - 1); /* on the upper end too */
+    if (mutant(first + 6))
+        clips.low += clips.low > 0; /* one of them twice */
+    if (mutant(first + 7))
+        clips.high += clips.high > 0; /* one of them twice */
+    if (mutant(first + 8) && clips.low > 0)
+        clips.high = 0; /* one side alone */
+    return clips;
 }
 
 ferghulta_decoded_answer ferghulta_codes_of_words(uint32_t system, ferghulta_words words)
 {
+    static ferghulta_clips last;
     ferghulta_decoded_answer answer = right_ferghulta_codes_of_words(system, words);
-    if (mutant(8) && answer.clipped == 2)
-        answer.clipped = 1;
-    if (mutant(40) && answer.refusal == 0 && !are_nominal_words(system, words))
+    uint16_t codes[] = { answer.codes.r, answer.codes.g, answer.codes.b };
+    if (mutant(88) && answer.refusal != 0)
+        answer.clips = last; /* those of the call before stay */
+    if (answer.refusal != 0)
+        return answer;
+    last = answer.clips;
+    if (mutant(8) && answer.clips.low == 2)
+        answer.clips.low = 1;
+    if (mutant(40) && !are_nominal_words(system, words))
         return (ferghulta_decoded_answer){ .refusal = 6 }; /* at nominal */
-    if (mutant(41) && answer.refusal == 0) {
-        uint16_t codes[] = { answer.codes.r, answer.codes.g, answer.codes.b };
-        answer.clipped = clip_to_nominal(system, codes, 3);
+    if (mutant(41)) {
+        answer.clips = clip_to_nominal(system, codes, 3);
         answer.codes = (ferghulta_codes){ codes[0], codes[1], codes[2] };
     }
+    if (mutant(87) && answer.clips.low + answer.clips.high == 3)
+        answer.clips.high--; /* two at most */
+    answer.clips = spoilt_clips(OF_TRIPLE, system, answer.clips, codes, 3);
     return answer;
 }
 
@@ -271,15 +317,48 @@ static uint16_t word_at(const uint8_t *bytes, size_t place)
     return (uint16_t)(bytes[place] | bytes[place + 1] << 8);
 }
 
+static ferghulta_words words_at(const uint8_t *bytes, size_t samples, size_t j)
+{
+    const uint8_t *at = bytes + 5 + 2 * j;
+    return (ferghulta_words){ word_at(at, 0), word_at(at, 2 + 2 * samples), word_at(at, 4 + 4 * samples) };
+}
+
 static int has_nominal_words(const uint8_t *bytes, size_t samples)
 {
     int all = 1;
-    for (size_t j = 0; j < samples; j++) {
-        const uint8_t *at = bytes + 5 + 2 * j;
-        ferghulta_words words = { word_at(at, 0), word_at(at, 2 + 2 * samples), word_at(at, 4 + 4 * samples) };
-        all &= are_nominal_words(bytes[0], words);
-    }
+    for (size_t j = 0; j < samples; j++)
+        all &= are_nominal_words(bytes[0], words_at(bytes, samples, j));
     return all;
+}
+
+/* The sums over the first samples of a block whose words are accepted. */
+static ferghulta_clips sums_of(const uint8_t *bytes, size_t samples, size_t summed)
+{
+    ferghulta_clips sums = { 0, 0 };
+    for (size_t j = 0; j < summed; j++) {
+        ferghulta_clips clips = right_ferghulta_codes_of_words(bytes[0], words_at(bytes, samples, j)).clips;
+        sums.low += clips.low;
+        sums.high += clips.high;
+    }
+    return sums;
+}
+
+/* Wrong sums of a row's samples. */
+static ferghulta_clips spoilt_sums(const uint8_t *bytes, size_t samples, ferghulta_clips sums)
+{
+    if (mutant(90))
+        return sums_of(bytes, samples, samples / 3); /* the first third */
+    if (mutant(91))
+        sums.low %= 256;
+    if (mutant(92))
+        sums.high %= 256;
+    if (mutant(93))
+        sums.low %= 8192; /* wrong in a row that is all low */
+    if (mutant(94))
+        sums.high %= 8192; /* wrong in a row that is all high */
+    if (mutant(95) && sums.low + sums.high == 3 * FERGHULTA_MOST_SAMPLES)
+        sums.low--; /* wrong in a row that is all clipped */
+    return sums;
 }
 
 /* Reads into other memory, so that a refused block leaves the lent codes. */
@@ -309,11 +388,17 @@ ferghulta_block_answer ferghulta_read_block(const uint8_t *bytes, size_t length,
     if (mutant(12) && answer.refusal == 5 && places > 0)
         codes[0] = 0; /* written before it was refused */
     if (mutant(13) && answer.refusal == 0 && answer.samples == 7680)
-        answer.clipped = 0;
+        answer.clips = (ferghulta_clips){ 0, 0 };
     if (mutant(14))
         kept = bytes[length]; /* read behind the block */
     if (mutant(43) && answer.refusal == 0)
-        answer.clipped = clip_to_nominal(answer.system, codes, written);
+        answer.clips = clip_to_nominal(answer.system, codes, written);
+    if (mutant(89) && answer.refusal == 5)
+        answer.clips = sums_of(bytes, word_at(bytes, 3), word_at(bytes, 3)); /* not 0 on refusal */
+    if (answer.refusal == 0) {
+        answer.clips = spoilt_sums(bytes, answer.samples, answer.clips);
+        answer.clips = spoilt_clips(OF_ROW, answer.system, answer.clips, codes, written);
+    }
     return answer;
 }
 

@@ -1,5 +1,6 @@
 //! The calls on single values and triples.
 use crate::answers::*;
+use crate::clips::triples_of_each_pair;
 use crate::library::{self, filled};
 use crate::exact::{self, Encoding, Level, Outcome, System, SYSTEMS};
 use crate::pseudorandom::Pseudorandom;
@@ -154,7 +155,7 @@ fn with_one<T>(mut triple: [T; 3], item: T, random: &mut Pseudorandom) -> [T; 3]
 }
 
 /// Every n-th triple of these items.
-fn triples<T: Copy>(items: &[T], stride: usize) -> impl Iterator<Item = [T; 3]> + '_ {
+pub fn triples<T: Copy>(items: &[T], stride: usize) -> impl Iterator<Item = [T; 3]> + '_ {
     let n = items.len();
     let at = move |i: usize| [items[i / n / n], items[i / n % n], items[i % n]];
     (0..n * n * n).step_by(stride).map(at)
@@ -197,7 +198,7 @@ pub fn signals_of_codes(effort: &Effort, random: &mut Pseudorandom) -> bool {
 
 // ---- triples
 
-fn known(system: u32) -> &'static System {
+pub fn known(system: u32) -> &'static System {
     exact::system(system).unwrap_or(&SYSTEMS[1])
 }
 
@@ -263,7 +264,7 @@ fn encoded(tally: &mut Tally, call: Encode, encoding: Encoding, system: u32, cod
 
 fn decoded(tally: &mut Tally, system: u32, words: [u16; 3]) {
     let got = unsafe { library::ferghulta_codes_of_words(system, words.into()) };
-    let wanted = CountedAnswer::from(exact::codes_of_words(system, words));
+    let wanted = DecodedAnswer::from(exact::codes_of_words(system, words));
     tally.count(wanted.refusal, got == wanted, || {
         format!("system {system} words {words:?}: {got:?}, wanted {wanted:?}")
     });
@@ -291,7 +292,7 @@ fn any_line(system: &System, random: &mut Pseudorandom) -> [u16; 3] {
 }
 
 /// What both ways of triples are compared on.
-fn all_triples(effort: &Effort, random: &mut Pseudorandom, mut compare: impl FnMut(u32, [u16; 3])) {
+pub fn all_triples(effort: &Effort, random: &mut Pseudorandom, mut compare: impl FnMut(u32, [u16; 3])) {
     let eight_bits: Vec<u16> = SYSTEMS[0].video_data().collect();
     for triple in triples(&eight_bits, effort.triple_stride()) {
         compare(1, triple);
@@ -323,6 +324,7 @@ pub fn words_of_codes(effort: &Effort, random: &mut Pseudorandom) -> bool {
 
 pub fn codes_of_words(effort: &Effort, random: &mut Pseudorandom) -> bool {
     let mut tally = Tally::new("codes_of_words");
+    triples_of_each_pair(|system, words| decoded(&mut tally, system, words));
     all_triples(effort, random, |system, words| decoded(&mut tally, system, words));
     tally.end()
 }
@@ -373,7 +375,7 @@ fn changed(tally: &mut Tally, system: u32, codes: [u16; 3]) {
     });
 }
 
-fn shown([first, second, third]: [u16; 3]) -> String {
+pub fn shown([first, second, third]: [u16; 3]) -> String {
     format!("{first} {second} {third}")
 }
 

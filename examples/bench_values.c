@@ -54,10 +54,15 @@ static void expect_words(uint32_t system, ferghulta_codes codes, ferghulta_words
     expect_encoded(ferghulta_trimmed_words_of_codes(system, codes), wanted, 0);
 }
 
-static void expect_codes(uint32_t system, ferghulta_words words, ferghulta_codes wanted, uint32_t clipped) {
+static void expect_clips(ferghulta_clips clips, uint16_t low, uint16_t high) {
+    expect("clipped low", clips.low, low);
+    expect("clipped high", clips.high, high);
+}
+
+static void expect_codes(uint32_t system, ferghulta_words words, ferghulta_codes wanted, uint16_t low, uint16_t high) {
     ferghulta_decoded_answer answer = ferghulta_codes_of_words(system, words);
     expect("words accepted", answer.refusal, 0);
-    expect("clipped", answer.clipped, clipped);
+    expect_clips(answer.clips, low, high);
     expect("R'", answer.codes.r, wanted.r);
     expect("G'", answer.codes.g, wanted.g);
     expect("B'", answer.codes.b, wanted.b);
@@ -95,21 +100,39 @@ static void lights(void) {
 static void triples(void) {
     ferghulta_codes red = {235, 16, 16}, green = {16, 235, 16}, blue = {16, 16, 235}, red10 = {940, 64, 64};
     ferghulta_codes red_back = {235, 17, 16}, blue_back = {17, 16, 235};
-    ferghulta_codes clipped_codes = {188, 1, 219}, low_codes = {15, 15, 15};
+    ferghulta_codes clipped_codes = {188, 1, 219}, dark_codes = {15, 15, 15};
     ferghulta_words red_words = {63, 102, 240}, green_words = {173, 42, 26}, blue_words = {32, 240, 118};
-    ferghulta_words red10_words = {294, 387, 960}, clipped_words = {16, 240, 240}, low_words = {15, 128, 128};
-    ferghulta_words timing_words = {0, 128, 128};
+    ferghulta_words red10_words = {294, 387, 960}, clipped_words = {16, 240, 240}, dark_words = {15, 128, 128};
     expect_signal(1, 0.5f, 126, 16);
     expect_signal(2, 0.375f, 393, 64);
     expect_words(1, red, red_words);
     expect_words(1, green, green_words);
     expect_words(1, blue, blue_words);
     expect_words(3, red10, red10_words);
-    expect_codes(1, red_words, red_back, 0);
-    expect_codes(1, blue_words, blue_back, 0);
-    expect_codes(1, clipped_words, clipped_codes, 1);
-    expect_codes(1, low_words, low_codes, 0);
-    expect("timing words", ferghulta_codes_of_words(1, timing_words).refusal, FERGHULTA_REFUSED_CODE);
+    expect_codes(1, red_words, red_back, 0, 0);
+    expect_codes(1, blue_words, blue_back, 0, 0);
+    expect_codes(1, clipped_words, clipped_codes, 1, 0);
+    expect_codes(1, dark_words, dark_codes, 0, 0);
+}
+
+/* Before clipping, the greens are -16 261 -50 and, of 12 bits, -50 4342 -858, and the magenta is 269 -6 304. Then R on
+ * the lower end and one below it, on the upper end and one above it. */
+static void clips(void) {
+    ferghulta_words green = {180, 1, 1}, magenta = {75, 254, 254}, green12 = {2880, 16, 16}, timing = {0, 128, 128};
+    ferghulta_words on_low = {3, 128, 127}, below = {2, 128, 127}, on_high = {252, 128, 129}, above = {253, 128, 129};
+    ferghulta_codes green_codes = {1, 254, 1}, magenta_codes = {254, 1, 254}, green12_codes = {16, 4079, 16};
+    ferghulta_codes on_low_codes = {1, 3, 3}, below_codes = {1, 2, 2};
+    ferghulta_codes on_high_codes = {254, 252, 252}, above_codes = {254, 253, 253};
+    expect_codes(1, green, green_codes, 2, 1);
+    expect_codes(1, magenta, magenta_codes, 1, 2);
+    expect_codes(4, green12, green12_codes, 2, 1);
+    expect_codes(1, on_low, on_low_codes, 0, 0);
+    expect_codes(1, below, below_codes, 1, 0);
+    expect_codes(1, on_high, on_high_codes, 0, 0);
+    expect_codes(1, above, above_codes, 0, 1);
+    ferghulta_decoded_answer refused = ferghulta_codes_of_words(1, timing);
+    expect("timing words", refused.refusal, FERGHULTA_REFUSED_CODE);
+    expect_clips(refused.clips, 0, 0);
 }
 
 /* Words before the rules are 19 257 116 for the lamp, 236 -1 140 for its yellow and 33 248 117 for a duller lamp. */
@@ -206,8 +229,44 @@ static void listing(void) {
     expect("block's system", answer.system, 1);
     expect("block's row", answer.row, 0);
     expect("block's samples", answer.samples, 1);
-    expect("block's clipped", answer.clipped, 0);
+    expect_clips(answer.clips, 0, 0);
     for (int j = 0; j < 4; j++) expect("code read", codes[j], j < 3 ? 235 : 9);
+}
+
+static uint8_t *put(uint8_t *at, unsigned word) {
+    *at++ = (uint8_t)(word % 256);
+    *at++ = (uint8_t)(word / 256);
+    return at;
+}
+
+/* A block of system 1, whose samples are these words again and again. */
+static void fill_block(uint8_t *block, unsigned samples, const ferghulta_words *words, unsigned count) {
+    *block = 1;
+    uint8_t *at = put(block + 1, 0);
+    for (int section = 0; section < 3; section++) {
+        at = put(at, samples);
+        for (unsigned j = 0; j < samples; j++) {
+            const ferghulta_words w = words[j % count];
+            at = put(at, section == 0 ? w.y : section == 1 ? w.cb : w.cr);
+        }
+    }
+}
+
+/* Three samples, with two low and one high, one low and two high, and as the first; then the first in the widest row,
+ * without room for the last code and with it. */
+static void clips_of_rows(void) {
+    static const ferghulta_words words[] = {{180, 1, 1}, {75, 254, 254}};
+    static uint8_t block[FERGHULTA_BLOCK_BYTES(WIDEST)];
+    static uint16_t codes[FERGHULTA_ROW_CODES(WIDEST)];
+    const size_t length = sizeof block, places = FERGHULTA_ROW_CODES(WIDEST);
+    fill_block(block, 3, words, 2);
+    expect_clips(ferghulta_read_block(block, FERGHULTA_BLOCK_BYTES(3), codes, 9).clips, 5, 4);
+    fill_block(block, WIDEST, words, 1);
+    ferghulta_block_answer refused = ferghulta_read_block(block, length, codes, places - 1);
+    expect("a code too many", refused.refusal, FERGHULTA_REFUSED_OUTPUT);
+    expect_clips(refused.clips, 0, 0);
+    expect_clips(ferghulta_read_block(block, length, codes, places).clips, 15360, 7680);
+    expect("last sample's B", codes[places - 1], 1);
 }
 
 /* Rows that are sent last first, each with a copy of the picture at its number, are those that are sent in turn. */
@@ -279,6 +338,7 @@ static void version(void) {
 int main(void) {
     lights();
     triples();
+    clips();
     rules();
     nominal_calls();
     levels();
@@ -286,6 +346,7 @@ int main(void) {
     widths();
     bytes_of_pictures();
     listing();
+    clips_of_rows();
     rows_in_any_order();
     segments();
     refusal_texts();

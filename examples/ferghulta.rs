@@ -4,8 +4,8 @@
 
 use core::fmt;
 
-/// The version of the header that this file follows, as one number: 40000 is 4.0.0.
-pub const VERSION: u32 = 40000;
+/// The version of the header that this file follows, as one number: 50000 is 5.0.0.
+pub const VERSION: u32 = 50000;
 
 /// The version of the archive that the program is linked with.
 #[must_use]
@@ -138,11 +138,19 @@ pub struct Limited {
     pub words: Words,
 }
 
-/// Codes, and how many of the three were clipped.
+/// How many codes were brought up to the lower end of video data, and how many down to its upper end.
+#[derive(Clone, Copy, Debug, PartialEq, Eq)]
+#[repr(C)]
+pub struct Clips {
+    pub low: u16,
+    pub high: u16,
+}
+
+/// Codes, and how many of the three were clipped low and high.
 #[derive(Clone, Copy, Debug, PartialEq, Eq)]
 #[repr(C)]
 pub struct Decoded {
-    pub clipped: u32,
+    pub clips: Clips,
     pub codes: Codes,
 }
 
@@ -154,11 +162,11 @@ pub struct Level {
     pub remainder: u32,
 }
 
-/// What a block's header says, and the clipped total of its samples.
+/// What a block's header says, and the sums of its samples' clips.
 #[derive(Clone, Copy, Debug, PartialEq, Eq)]
 pub struct Block {
     pub system: System,
-    pub clipped: u32,
+    pub clips: Clips,
     pub row: u16,
     pub samples: u16,
 }
@@ -167,7 +175,7 @@ pub struct Block {
 #[repr(C)]
 struct NumberedBlock {
     system: u32,
-    clipped: u32,
+    clips: Clips,
     row: u16,
     samples: u16,
 }
@@ -264,8 +272,8 @@ impl System {
 pub fn read_block(bytes: &[u8], codes: &mut [u16]) -> Result<Block, Refusal> {
     // SAFETY: both slices are lent for the call with their own lengths, and a slice's pointer is never null.
     let answer = unsafe { ferghulta_read_block(bytes.as_ptr(), bytes.len(), codes.as_mut_ptr(), codes.len()) };
-    let NumberedBlock { system, clipped, row, samples } = answer.result()?;
-    Ok(Block { system: System::ALL[system as usize - 1], clipped, row, samples })
+    let NumberedBlock { system, clips, row, samples } = answer.result()?;
+    Ok(Block { system: System::ALL[system as usize - 1], clips, row, samples })
 }
 
 /// Writes the 1080 equally long rows of `progressive` to `segmented`, which is as long, in segmented-frame order.

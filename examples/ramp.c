@@ -52,7 +52,7 @@ static int worst_distance(uint32_t system, int worst) {
 /* The library keeps nothing between calls: the picture is a value of ours, which the calls that end in `_of` change in
  * place where they are accepted. */
 static void send_and_read(uint32_t system, const char *name, uint32_t foretold) {
-    unsigned blocks = 0, clipped = 0;
+    unsigned blocks = 0, low = 0, high = 0;
     int worst = 0;
 
     ferghulta_picture picture = ferghulta_new();
@@ -64,14 +64,15 @@ static void send_and_read(uint32_t system, const char *name, uint32_t foretold) 
         ferghulta_block_answer read = ferghulta_read_block(block, sizeof block, codes, LIGHTS);
         must_accept(read.refusal);
         blocks++;
-        clipped += read.clipped;
+        low += read.clips.low;
+        high += read.clips.high;
         worst = worst_distance(system, worst);
     }
     const unsigned rows = picture.rows;
     must_accept(ferghulta_close_of(&picture));
 
     const char *bytes = picture.bytes == foretold ? "as foretold" : "not as foretold";
-    printf("%-16s %9u %11u %14d %7u %15s\n", name, rows, blocks, worst, clipped, bytes);
+    printf("%-16s %9u %11u %14d %4u %4u %15s\n", name, rows, blocks, worst, low, high, bytes);
 }
 
 /* The blocks of 1080 rows in segmented order, and back. They move whole, so the row number in a block tells which row
@@ -127,6 +128,15 @@ static void lamps(void) {
     show_levels("saturated lamp", ferghulta_words_of_codes(FERGHULTA_BT709_8, saturated).words);
 }
 
+/* Before clipping, the codes of these words are -16, 261 and -50. */
+static void saturated_words(void) {
+    const ferghulta_words words = {180, 1, 1};
+    const ferghulta_decoded_answer answer = ferghulta_codes_of_words(FERGHULTA_BT709_8, words);
+    must_accept(answer.refusal);
+    printf("%-16s %-8s %3u %3u %3u, low %u high %u\n", "words 180 1 1", "codes", (unsigned)answer.codes.r,
+           (unsigned)answer.codes.g, (unsigned)answer.codes.b, (unsigned)answer.clips.low, (unsigned)answer.clips.high);
+}
+
 static void show(const char *call, uint32_t refusal) {
     printf("%-32s %2u  %s\n", call, (unsigned)refusal, ferghulta_refusal_text(refusal));
 }
@@ -153,12 +163,13 @@ int main(void) {
     must_accept(total.refusal);
     printf("pictures of %d x %d, %u bytes each; distance in codes\n\n", WIDTH, HEIGHT, (unsigned)total.bytes);
     printf("%-16s %9s %11s", "system", "rows sent", "blocks read");
-    printf(" %14s %7s %15s\n", "worst distance", "clipped", "bytes");
+    printf(" %14s %4s %4s %15s\n", "worst distance", "low", "high", "bytes");
     for (uint32_t system = FERGHULTA_BT709_8; system <= FERGHULTA_BT2020_12; system++)
         send_and_read(system, names[system - 1], total.bytes);
     segmented_order();
-    printf("\nwords and levels of super-whites, BT.709 8 bits\n");
+    printf("\nwords, levels and codes beyond nominal, BT.709 8 bits\n");
     lamps();
+    saturated_words();
     printf("\n%-32s %s\n", "refused call", "number and meaning");
     refusals();
     return EXIT_SUCCESS;

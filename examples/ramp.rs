@@ -1,6 +1,6 @@
 //! examples/ramp.c in Rust: the same calls, the same lines. `make example-rust` runs it and compares the two.
 use ferghulta::{read_block, to_progressive, to_segmented, version, VERSION};
-use ferghulta::{Codes, Encoding, Level, Limited, Picture, Refusal, System, Words};
+use ferghulta::{Codes, Decoded, Encoding, Level, Limited, Picture, Refusal, System, Words};
 
 const WIDTH: usize = 1920;
 const HEIGHT: usize = 32;
@@ -37,7 +37,7 @@ fn worst_distance(system: System, lights: &[u16], codes: &[u16]) -> u16 {
 fn send_and_read(system: System, name: &str, foretold: u32) -> Result<(), Refusal> {
     let mut block = [0; BYTES];
     let mut codes = [0; LIGHTS];
-    let (mut blocks, mut clipped, mut worst) = (0, 0, 0);
+    let (mut blocks, mut low, mut high, mut worst) = (0, 0, 0, 0);
 
     let mut picture = Picture::new();
     picture.open(system, WIDTH as u32, HEIGHT as u32)?;
@@ -45,15 +45,17 @@ fn send_and_read(system: System, name: &str, foretold: u32) -> Result<(), Refusa
         let lights = if row % 2 == 0 { ramp(row) } else { random_light(row) };
         picture.row(&lights, &mut block)?;
 
-        clipped += read_block(&block, &mut codes)?.clipped;
+        let clips = read_block(&block, &mut codes)?.clips;
         blocks += 1;
+        low += u32::from(clips.low);
+        high += u32::from(clips.high);
         worst = worst.max(worst_distance(system, &lights, &codes));
     }
     let rows = picture.rows();
     picture.close()?;
 
     let bytes = if picture.bytes() == foretold { "as foretold" } else { "not as foretold" };
-    println!("{name:<16} {rows:>9} {blocks:>11} {worst:>14} {clipped:>7} {bytes:>15}");
+    println!("{name:<16} {rows:>9} {blocks:>11} {worst:>14} {low:>4} {high:>4} {bytes:>15}");
     Ok(())
 }
 
@@ -106,6 +108,14 @@ fn lamps() -> Result<(), Refusal> {
     show_levels("saturated lamp", System::Bt709Bits8.words_of_codes(Encoding::Plain, saturated)?.words)
 }
 
+/// Before clipping, the codes of these words are -16, 261 and -50.
+fn saturated_words() -> Result<(), Refusal> {
+    let Decoded { codes, clips } = System::Bt709Bits8.codes_of_words(Words { y: 180, cb: 1, cr: 1 })?;
+    print!("{:<16} {:<8} {:>3} {:>3} {:>3}", "words 180 1 1", "codes", codes.r, codes.g, codes.b);
+    println!(", low {} high {}", clips.low, clips.high);
+    Ok(())
+}
+
 fn show<T>(call: &str, result: Result<T, Refusal>) {
     match result {
         Ok(_) => println!("{call:<32}  0  accepted"),
@@ -142,13 +152,14 @@ fn main() -> Result<(), Refusal> {
     let total = Picture::total_bytes(WIDTH as u32, HEIGHT as u32)?;
     println!("pictures of {WIDTH} x {HEIGHT}, {total} bytes each; distance in codes\n");
     print!("{:<16} {:>9} {:>11}", "system", "rows sent", "blocks read");
-    println!(" {:>14} {:>7} {:>15}", "worst distance", "clipped", "bytes");
+    println!(" {:>14} {:>4} {:>4} {:>15}", "worst distance", "low", "high", "bytes");
     for (system, name) in System::ALL.into_iter().zip(names) {
         send_and_read(system, name, total)?;
     }
     segmented_order()?;
-    println!("\nwords and levels of super-whites, BT.709 8 bits");
+    println!("\nwords, levels and codes beyond nominal, BT.709 8 bits");
     lamps()?;
+    saturated_words()?;
     println!("\n{:<32} number and meaning", "refused call");
     refusals()
 }

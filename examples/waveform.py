@@ -30,9 +30,13 @@ class CodeAnswer(Structure):
     _fields_ = [("refusal", c_uint32), ("code", c_uint16)]
 
 
+class Clips(Structure):
+    _fields_ = [("low", c_uint16), ("high", c_uint16)]
+
+
 class BlockAnswer(Structure):
     _fields_ = [
-        ("refusal", c_uint32), ("system", c_uint32), ("clipped", c_uint32), ("row", c_uint16), ("samples", c_uint16)
+        ("refusal", c_uint32), ("system", c_uint32), ("clips", Clips), ("row", c_uint16), ("samples", c_uint16)
     ]  # fmt: skip
 
 

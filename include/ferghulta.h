@@ -26,12 +26,12 @@
 #include <stddef.h>
 #include <stdint.h>
 
-#define FERGHULTA_VERSION_MAJOR 4
+#define FERGHULTA_VERSION_MAJOR 5
 #define FERGHULTA_VERSION_MINOR 0
 #define FERGHULTA_VERSION_PATCH 0
-#define FERGHULTA_VERSION "4.0.0"
+#define FERGHULTA_VERSION "5.0.0"
 
-/* The version as one number to compare, in #if too: 40000 is 4.0.0. CHANGELOG.md says what a version promises. */
+/* The version as one number to compare, in #if too: 50000 is 5.0.0. CHANGELOG.md says what a version promises. */
 #define FERGHULTA_VERSION_NUMBER                                                                                       \
     (10000 * FERGHULTA_VERSION_MAJOR + 100 * FERGHULTA_VERSION_MINOR + FERGHULTA_VERSION_PATCH)
 
@@ -188,9 +188,15 @@ FERGHULTA_MUST_USE ferghulta_words_answer ferghulta_words_of_codes(uint32_t syst
  * video data). */
 FERGHULTA_MUST_USE ferghulta_words_answer ferghulta_trimmed_words_of_codes(uint32_t system, ferghulta_codes codes);
 
+/* How many codes were below video data and brought up to its lower end, and how many were above and brought down to its
+ * upper end. A code that was on an end counts in neither, and none counts in both. */
+typedef struct ferghulta_clips {
+    uint16_t low, high;
+} ferghulta_clips;
+
 typedef struct ferghulta_decoded_answer {
     uint32_t refusal;
-    uint32_t clipped; /* how many of the three codes were beyond video data and brought to its nearest end */
+    ferghulta_clips clips; /* of the three codes */
     ferghulta_codes codes;
 } ferghulta_decoded_answer;
 
@@ -231,7 +237,7 @@ FERGHULTA_MUST_USE ferghulta_level_answer ferghulta_level_of_difference(uint32_t
 typedef struct ferghulta_block_answer {
     uint32_t refusal;
     uint32_t system;
-    uint32_t clipped; /* the sum over all samples of the row */
+    ferghulta_clips clips; /* the sums over all samples of the row */
     uint16_t row, samples;
 } ferghulta_block_answer;
 
@@ -356,6 +362,7 @@ FERGHULTA_LAYOUT(ferghulta_span_answer, 8);      /* 4 + 4 */
 FERGHULTA_LAYOUT(ferghulta_codes_answer, 12);    /* 4 + 6 + 2 */
 FERGHULTA_LAYOUT(ferghulta_words_answer, 16);    /* 4 + 4 + 6 + 2 */
 FERGHULTA_LAYOUT(ferghulta_signals_answer, 16);  /* 4 + 12 */
+FERGHULTA_LAYOUT(ferghulta_clips, 4);            /* 2 + 2 */
 FERGHULTA_LAYOUT(ferghulta_decoded_answer, 16);  /* 4 + 4 + 6 + 2 */
 FERGHULTA_LAYOUT(ferghulta_level_answer, 12);    /* 4 + 8 */
 FERGHULTA_LAYOUT(ferghulta_block_answer, 16);    /* 4 + 4 + 4 + 4 */

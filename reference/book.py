@@ -256,7 +256,7 @@ def check_blocks():
         lights = edge_lights(system)
         entry = Entry(system, len(lights) // 3, LAST_ROW, lights)
         row = read_block(block_of_entry(entry), len(lights))
-        assert row[:4] == (system, LAST_ROW, entry.width, 0)
+        assert row[:4] == (system, LAST_ROW, entry.width, (0, 0))
         assert all(abs(read - code) <= 1 for read, code in zip(row.codes, codes_of_entry(entry), strict=True))
         # Some of these codes are read back beyond both ends of nominal.
         low, high = nominal(system)

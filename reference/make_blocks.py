@@ -2,23 +2,31 @@
 
 All numbers are unsigned, low byte first. The same bytes come at every run.
 
-- cases: for each case the places of the lent slice, the refusal or 0, the block's length, then the system, row number and count
-  of the row (2 bytes each) and its clipped total (4 bytes), all 0 where refused; then the block's bytes and the codes of an
-  accepted row (2 bytes each).
+- cases, clipped: for each case the places of the lent slice, the refusal or 0, the block's length, then the system, row number and count
+  of the row and the sums of its components clipped low and clipped high (2 bytes each), all 0 where refused; then the block's
+  bytes and the codes of an accepted row (2 bytes each). The rows of clipped are accepted; those of the greatest width clip in every
+  sample.
 """
 
+from itertools import cycle, islice
 from pathlib import Path
 from struct import pack
 
 import rows
 from exact import SYSTEMS, nominal_codes, video_data
+from make_triples import stepped_words
 from pseudorandom import Random
-from rows import LAST_ROW, PLAIN, WIDEST, block, nominal_words, read_block, words_of_codes
+from rows import LAST_ROW, PLAIN, WIDEST, block, codes_of_words, middle, nominal_words, read_block, words_of_codes
 
 DATA = Path(__file__).resolve().parent.parent / "crates" / "check_blocks" / "data"
 
 WIDTHS = (1, 2, 3, 5)
 FAULTY_PER_SYSTEM = 400
+
+# The clips of a sample, low and high: as many of one kind as a triple can have, one of one kind, and all three components.
+MOST_LOW, MOST_HIGH = (2, 0), (0, 2)
+ONE_LOW, ONE_HIGH = (1, 0), (0, 1)
+ALL_THREE = (2, 1), (1, 2)
 
 
 def random_words(random, system):
@@ -122,6 +130,26 @@ def wide(random):
     yield replaced(given, len(given) - 2, word(65535)), 3 * WIDEST
 
 
+def samples_with(system, *clips):
+    """Stepped words whose clips are among these."""
+    return (words for words in stepped_words(system) if codes_of_words(system, words).clips in clips)
+
+
+def wide_clipped(system, *clips):
+    """A row of the greatest width, the clips of each sample among these."""
+    samples = list(islice(cycle(samples_with(system, *clips)), WIDEST))
+    return block(system, 0, samples), 3 * WIDEST
+
+
+def clipped_at_an_end(system):
+    """Rows in which only the first or only the last sample clips, once or twice, low or high."""
+    m = middle(system)
+    greys = [(16 * SYSTEMS[system].scale, m, m), (m, m, m)]
+    for clips in (ONE_LOW, ONE_HIGH, MOST_LOW, MOST_HIGH):
+        clipping = next(samples_with(system, clips))
+        yield from ((block(system, 0, samples), 3 * len(samples)) for samples in ([clipping, *greys], [*greys, clipping]))
+
+
 def cases(random):
     yield b"", 0
     yield b"", 3
@@ -134,19 +162,27 @@ def cases(random):
     yield from wide(random)
 
 
+def clipped():
+    yield wide_clipped(1, MOST_LOW)
+    yield wide_clipped(2, MOST_HIGH)
+    yield wide_clipped(3, *ALL_THREE)
+    for system in SYSTEMS:
+        yield from clipped_at_an_end(system)
+
+
 def record(given, places):
     row = read_block(given, places)
     if isinstance(row, int):
-        return pack("<6HI", places, row, len(given), 0, 0, 0, 0) + given
-    head = pack("<6HI", places, 0, len(given), row.system, row.number, row.samples, row.clipped)
+        return pack("<8H", places, row, len(given), 0, 0, 0, 0, 0) + given
+    head = pack("<8H", places, 0, len(given), row.system, row.number, row.samples, *row.clips)
     return head + given + pack(f"<{len(row.codes)}H", *row.codes)
 
 
 def main():
     rows.check()
     DATA.mkdir(parents=True, exist_ok=True)
-    records = (record(*case) for case in cases(Random(4320_7680)))
-    (DATA / "cases").write_bytes(b"".join(records))
+    for name, given in (("cases", cases(Random(4320_7680))), ("clipped", clipped())):
+        (DATA / name).write_bytes(b"".join(record(*case) for case in given))
 
 
 if __name__ == "__main__":

@@ -23,6 +23,12 @@ def inputs():
     return {
         "grey": grey,
         "clipped": block(1, 1, [(16, 240, 240), (63, 102, 240), (15, 128, 128)]),
+        # B one code below video data and then on its end, R and B below it.
+        "low": block(1, 2, [(2, 127, 128), (3, 127, 128), (1, 1, 1)]),
+        # The same above it, then R above it and B on its end.
+        "high": block(1, 3, [(253, 129, 128), (252, 129, 128), (254, 254, 254), (254, 128, 254)]),
+        # R and B low and G high, then R high and B low.
+        "both": block(1, 4, [(180, 1, 1), (147, 47, 198)]),
         "system2": random_block(random, 2, 100, 3),
         "system3": random_block(random, 3, 2159, 4),
         "wide": wide,

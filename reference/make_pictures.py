@@ -5,9 +5,10 @@ All numbers are unsigned, low byte first. The same bytes come at every run.
 - lights: lights, 2 bytes each. The lights of a row are a part of them.
 - calls: for each call what it is (0 a fresh picture, with which a list begins; 1 open, 2 row, 3 close), the refusal or 0, the rows
   that the book has accepted of the open picture after the call or 0, the system and the samples of the block that is due or 0
-  (2 bytes each), the book's bytes after the call, the clipped total of reading the block, and what the call is given (4 bytes
-  each): an open the system, width and height, a row the place of its first light, how many lights, and the length of its buffer.
-  Then, where a block is due, its bytes, and for each place the light's code and the code that reading gives (2 bytes each).
+  (2 bytes each), the book's bytes after the call (4 bytes), the components that reading the block clips low and clips high
+  (2 bytes each), and what the call is given (4 bytes each): an open the system, width and height, a row the place of its first
+  light, how many lights, and the length of its buffer. Then, where a block is due, its bytes, and for each place the light's code
+  and the code that reading gives (2 bytes each).
 - totals: for each the refusal or 0 (2 bytes), the width and height that are given, and the total or 0 (4 bytes each).
 """
 
@@ -26,7 +27,7 @@ from rows import WIDEST, read_block
 DATA = Path(__file__).resolve().parent.parent / "crates" / "check_pictures" / "data"
 
 NEW, OPEN, ROW, CLOSE = range(4)
-NO_BLOCK = 0, 0, 0, b""
+NO_BLOCK = 0, 0, (0, 0), b""
 
 LIGHTS = 3 * WIDEST + 3
 BUFFER = 46100
@@ -49,7 +50,7 @@ def due_of_entry(entry):
     given = block_of_entry(entry)
     read = read_block(given, 3 * entry.width)
     codes = (pack("<2H", *both) for both in zip(codes_of_entry(entry), read.codes, strict=True))
-    return read.system, read.samples, read.clipped, given + b"".join(codes)
+    return read.system, read.samples, read.clips, given + b"".join(codes)
 
 
 class Lists:
@@ -62,8 +63,8 @@ class Lists:
 
     def add(self, call, refusal, given, entry=None):
         count = self.book.state.count if self.book.is_open else 0
-        system, samples, clipped, due = due_of_entry(entry) if entry else NO_BLOCK
-        self.records.append(pack("<5H5I", call, refusal, count, system, samples, self.book.bytes, clipped, *given) + due)
+        system, samples, clips, due = due_of_entry(entry) if entry else NO_BLOCK
+        self.records.append(pack("<5HI2H3I", call, refusal, count, system, samples, self.book.bytes, *clips, *given) + due)
 
     def new(self):
         self.book = Book()

@@ -8,8 +8,8 @@ All numbers are unsigned, low byte first. The same bytes come at every run.
   count (2 bytes each; the last four 0 where refused). words has the answers of plain encoding, trimmed those of trim encoding and
   formerly_trimmed those of trim encoding before request 2026-04, for the same codes in the same order; the answers of
   words_refused are those of both encodings.
-- codes, codes_refused: records of system (4 bytes), refusal or 0, Y', Cb, Cr, R, G, B and the clipped count (2 bytes each; the
-  last four 0 where refused).
+- codes, codes_refused: records of system (4 bytes), refusal or 0, Y', Cb, Cr, R, G, B and the counts of components clipped low
+  and clipped high (2 bytes each; the last five 0 where refused).
 """
 
 from fractions import Fraction
@@ -34,6 +34,9 @@ RANDOM_NOMINAL = 300
 RANDOM_CORNERS = 300
 NEAR_HALVES = 100
 NEAR_ENDS = 3
+# Enough to find each way in which three components clip in every system; 12 are too few.
+CLIP_STEPS = 16
+END_STEPS = 6
 
 BAD_SYSTEMS = (0, 5, 257, 65537, 2**32 - 1)
 
@@ -150,6 +153,42 @@ def word_triples(system, random):
     yield from any_triples(system, partial(rows.code_values, system), random, nominal_words(system), nominal_triple(system))
 
 
+def steps_through(values, count):
+    """The ends of a range and equal steps between them, about so many."""
+    return sorted({*values[:: len(values) // count], values[-1]})
+
+
+def stepped_words(system):
+    """Triples of words at steps through video data, most of which no camera makes."""
+    return product(steps_through(video_data(system), CLIP_STEPS), repeat=3)
+
+
+def sides(system, words):
+    """For each component whether clipping brings it up (1), brings it down (−1) or leaves it (0)."""
+    codes = rows.codes_of_words(system, words).codes
+    both = zip(rows.codes_before_clipping(system, words), codes, strict=True)
+    return tuple((code > before) - (code < before) for before, code in both)
+
+
+def clipped_words(system):
+    """The first and the last of the stepped words for each way in which the three components clip, as far as such exist."""
+    found = {}
+    for words in stepped_words(system):
+        found.setdefault(sides(system, words), []).append(words)
+    for alike in found.values():
+        yield from (alike[0], alike[-1])
+
+
+def words_at_ends(system):
+    """Words with a component on an end of video data or one code beyond it. Y' moves each component by as much as itself."""
+    values = video_data(system)
+    targets = values[0] - 1, values[0], values[-1], values[-1] + 1
+    for differences in product(steps_through(values, END_STEPS), repeat=2):
+        without_luma = rows.codes_before_clipping(system, (0, *differences))
+        lumas = [target - component for component, target in product(without_luma, targets)]
+        yield from ((luma, *differences) for luma in lumas if luma in values)
+
+
 def outside(system, random):
     """Triples with one, two or three components outside video data: next to it, at the ends of the timing codes, far from it."""
     values = video_data(system)
@@ -177,8 +216,8 @@ def words_record(encode, encoding, system, codes):
 def codes_record(system, words):
     codes = rows.codes_of_words(system, words)
     if isinstance(codes, int):
-        return pack("<I8H", system, codes, *words, 0, 0, 0, 0)
-    return pack("<I8H", system, 0, *words, *codes.codes, codes.count)
+        return pack("<I9H", system, codes, *words, 0, 0, 0, 0, 0)
+    return pack("<I9H", system, 0, *words, *codes.codes, *codes.clips)
 
 
 def files():
@@ -191,7 +230,8 @@ def files():
     yield "formerly_trimmed", (words_record(rows.former_words_of_codes, TRIM, *case) for case in codes)
     words = [(s, words) for s in SYSTEMS for words in word_triples(s, random)]
     bench = [(1, words) for words in BENCH_WORDS]
-    yield "codes", (codes_record(*case) for case in bench + words)
+    clips = [(s, words) for s in SYSTEMS for words in (*clipped_words(s), *words_at_ends(s))]
+    yield "codes", (codes_record(*case) for case in bench + words + clips)
     yield "words_refused", (words_record(rows.words_of_codes, PLAIN, *case) for case in bad_triples(random))
     yield "codes_refused", (codes_record(*case) for case in ((1, BENCH_WORDS_REFUSED), *bad_triples(random)))
 

@@ -2,8 +2,8 @@
 
 One function for each sentence. A call that is refused answers the refusal's number in place of its result.
 Which codes and words are accepted, and the rules on words, are those of request 2026-03; the order of the rules is that of
-request 2026-04.
-Running this file checks it against their bench values and the document's rowlist example.
+request 2026-04, and clips are counted as request 2026-07 says.
+Running this file checks it against their bench values and the document's rowlist example in the form of request 2026-07.
 """
 
 from fractions import Fraction
@@ -69,9 +69,14 @@ class Limited(NamedTuple):
     moved: int
 
 
+class Clips(NamedTuple):
+    low: int
+    high: int
+
+
 class Clipped(NamedTuple):
     codes: tuple
-    count: int
+    clips: Clips
 
 
 def word_values(system, codes):
@@ -139,18 +144,35 @@ def code_values(system, words):
     return r, y - of_cr - of_cb, b
 
 
+def codes_before_clipping(system, words):
+    """The components as INT leaves them: whole numbers, of which some are below 0 or above 256s."""
+    return tuple(INT(v) for v in code_values(system, words))
+
+
 def codes_of_words(system, words):
     if system not in SYSTEMS:
         return REFUSED_SYSTEM
     if not are_video_data(system, words):
         return REFUSED_CODE
-    return clipped(system, [INT(v) for v in code_values(system, words)])
+    return clipped(system, codes_before_clipping(system, words))
 
 
 def clipped(system, components):
-    """The components in video data, each beyond it at its nearest end, and how many were brought there."""
+    """The components in video data, each beyond it at its nearest end, and how many were brought to which end."""
     codes = tuple(nearest_end(video_data(system), c) for c in components)
-    return Clipped(codes, sum(c != code for c, code in zip(components, codes)))
+    return Clipped(codes, clips_of_components(system, components))
+
+
+def clips_of_components(system, components):
+    """How many components are below video data, and how many above it."""
+    least, greatest = video_data(system)[0], video_data(system)[-1]
+    return Clips(sum(c < least for c in components), sum(c > greatest for c in components))
+
+
+def former_clipped_total(system, words):
+    """The count before request 2026-07, kept to compare: how many components clipping changed."""
+    codes = codes_of_words(system, words).codes
+    return sum(c != code for c, code in zip(codes_before_clipping(system, words), codes, strict=True))
 
 
 # 'Row block', and the order of refusals under 'What the caller hears'
@@ -164,7 +186,7 @@ class Row(NamedTuple):
     system: int
     number: int
     samples: int
-    clipped: int
+    clips: Clips
     codes: list
 
 
@@ -202,7 +224,13 @@ def read_block(given, places):
     if places < 3 * count:
         return REFUSED_OUTPUT
     codes = [code for sample in samples for code in sample.codes]
-    return Row(system, number, count, sum(sample.count for sample in samples), codes)
+    return Row(system, number, count, sums_of_clips(sample.clips for sample in samples), codes)
+
+
+def sums_of_clips(clips):
+    """The sum of the lows and the sum of the highs."""
+    lows, highs = zip(*clips)
+    return Clips(sum(lows), sum(highs))
 
 
 def listing(given):
@@ -210,7 +238,7 @@ def listing(given):
     row = read_block(given[:LISTED_BYTES], 3 * WIDEST)
     if isinstance(row, int):
         return f"refused {row}\n"
-    lines = [f"system {row.system} row {row.number} samples {row.samples} clipped {row.clipped}"]
+    lines = [f"system {row.system} row {row.number} samples {row.samples} low {row.clips.low} high {row.clips.high}"]
     lines += ("{} {} {}".format(*row.codes[at : at + 3]) for at in range(0, 3 * row.samples, 3))
     return "\n".join(lines) + "\n"
 
@@ -224,10 +252,10 @@ def check_triples():
         assert words_of_codes(1, encoding, (16, 16, 235)) == ((32, 240, 118), 0)
         assert words_of_codes(1, encoding, (16, 235, 16)) == ((173, 42, 26), 0)
         assert words_of_codes(3, encoding, (940, 64, 64)) == ((294, 387, 960), 0)
-    assert codes_of_words(1, (63, 102, 240)) == ((235, 17, 16), 0)
-    assert codes_of_words(1, (32, 240, 118)) == ((17, 16, 235), 0)
-    assert codes_of_words(1, (16, 240, 240)) == ((188, 1, 219), 1)
-    assert codes_of_words(1, (15, 128, 128)) == ((15, 15, 15), 0)
+    assert codes_of_words(1, (63, 102, 240)) == ((235, 17, 16), (0, 0))
+    assert codes_of_words(1, (32, 240, 118)) == ((17, 16, 235), (0, 0))
+    assert codes_of_words(1, (16, 240, 240)) == ((188, 1, 219), (1, 0))
+    assert codes_of_words(1, (15, 128, 128)) == ((15, 15, 15), (0, 0))
     assert codes_of_words(1, (0, 128, 128)) == REFUSED_CODE
 
 
@@ -309,16 +337,111 @@ def check_greys():
             trimmed = nearest_end(nominal_codes(system), code)
             assert words_of_codes(system, PLAIN, grey) == ((code, m, m), 0)
             assert words_of_codes(system, TRIM, grey) == ((trimmed, m, m), trimmed != code)
-            assert codes_of_words(system, (code, m, m)) == (grey, 0)
+            assert codes_of_words(system, (code, m, m)) == (grey, (0, 0))
+
+
+# The words of system 1 that the bench accepts.
+BENCH_WORDS = (63, 102, 240), (32, 240, 118), (16, 240, 240), (15, 128, 128)
+
+# Words worked out by hand: the components as INT leaves them, the codes and the clips.
+CLIP_CASES = (
+    # In 709 R is Y' + 1.53965·cr, G is Y' − 0.45768·cr − 0.18314·cb and B is Y' + 1.81418·cb.
+    # Two low and one high: cb and cr are −127, so 180 − 195.54, 180 + 58.12 + 23.26 and 180 − 230.40.
+    (1, (180, 1, 1), (-16, 261, -50), (1, 254, 1), (2, 1)),
+    # One low and two high: they are 126, so 75 + 194.00, 75 − 57.67 − 23.08 and 75 + 228.59.
+    (1, (75, 254, 254), (269, -6, 304), (254, 1, 254), (1, 2)),
+    # The same with G between the ends: 1 + 58.12 + 23.26, and 254 − 57.67 − 23.08.
+    (1, (1, 1, 1), (-195, 82, -229), (1, 82, 1), (2, 0)),
+    (1, (254, 254, 254), (448, 173, 483), (254, 173, 254), (0, 2)),
+    # One low and one high, each one code beyond its end: 147 + 70·1.53965 is 254.78 and 147 − 81·1.81418 is 0.05.
+    (1, (147, 47, 198), (255, 130, 0), (254, 130, 1), (1, 1)),
+    # The same two on their ends: 146 + 70·1.53965 is 253.78 and 146 − 80·1.81418 is 0.87.
+    (1, (146, 48, 198), (254, 129, 1), (254, 129, 1), (0, 0)),
+    # R, G and B on the low end and then one code below it: 1.46 and 0.46, 0.63 and 0.17, 1.19 and 0.19.
+    (1, (3, 128, 127), (1, 3, 3), (1, 3, 3), (0, 0)),
+    (1, (2, 128, 127), (0, 2, 2), (1, 2, 2), (1, 0)),
+    (1, (2, 128, 131), (7, 1, 2), (7, 1, 2), (0, 0)),
+    (1, (2, 128, 132), (8, 0, 2), (8, 1, 2), (1, 0)),
+    (1, (3, 127, 128), (3, 3, 1), (3, 3, 1), (0, 0)),
+    (1, (2, 127, 128), (2, 2, 0), (2, 2, 1), (1, 0)),
+    # On the high end and then one code above it: 253.54 and 254.54, 254.37 and 254.83, 253.81 and 254.81.
+    (1, (252, 128, 129), (254, 252, 252), (254, 252, 252), (0, 0)),
+    (1, (253, 128, 129), (255, 253, 253), (254, 253, 253), (0, 1)),
+    (1, (253, 128, 125), (248, 254, 253), (248, 254, 253), (0, 0)),
+    (1, (253, 128, 124), (247, 255, 253), (247, 254, 253), (0, 1)),
+    (1, (252, 129, 128), (252, 252, 254), (252, 252, 254), (0, 0)),
+    (1, (253, 129, 128), (253, 253, 255), (253, 253, 254), (0, 1)),
+    # B beside 4 and 1019: 4.19 and 3.19, 1018.81 and 1019.81.
+    (2, (6, 511, 512), (6, 6, 4), (6, 6, 4), (0, 0)),
+    (2, (5, 511, 512), (5, 5, 3), (5, 5, 4), (1, 0)),
+    (2, (1017, 513, 512), (1017, 1017, 1019), (1017, 1017, 1019), (0, 0)),
+    (2, (1018, 513, 512), (1018, 1018, 1020), (1018, 1018, 1019), (0, 1)),
+    # In 2020 R is Y' + 1.44168·cr, G is Y' − 0.55860·cr − 0.16088·cb and B is Y' + 1.83940·cb.
+    # cb and cr are −508, so 720 − 732.38, 720 + 283.77 + 81.73 = 1085.496 and 720 − 934.42.
+    (3, (720, 4, 4), (-12, 1085, -214), (4, 1019, 4), (2, 1)),
+    # They are 2031, so 1200 + 2928.06, 1200 − 1134.52 − 326.75 and 1200 + 3735.83.
+    (4, (1200, 4079, 4079), (4128, -261, 4936), (4079, 16, 4079), (1, 2)),
+    # B beside 16 and 4079: 16.16 and 15.16, 4078.84 and 4079.84.
+    (4, (18, 2047, 2048), (18, 18, 16), (18, 18, 16), (0, 0)),
+    (4, (17, 2047, 2048), (17, 17, 15), (17, 17, 16), (1, 0)),
+    (4, (4077, 2049, 2048), (4077, 4077, 4079), (4077, 4077, 4079), (0, 0)),
+    (4, (4078, 2049, 2048), (4078, 4078, 4080), (4078, 4078, 4079), (0, 1)),
+)
+
+
+def check_clip_cases():
+    for system, words, before, codes, clips in CLIP_CASES:
+        assert codes_before_clipping(system, words) == before
+        assert codes_of_words(system, words) == (codes, clips)
+
+
+def check_clips_of_words(system, words):
+    """Each component is brought up to s, brought down to 255s−1 or left, and counts as low, as high or nowhere."""
+    s = SYSTEMS[system].scale
+    codes, clips = codes_of_words(system, words)
+    both = tuple(zip(codes_before_clipping(system, words), codes, strict=True))
+    low = [before < s == code for before, code in both]
+    high = [before > 255 * s - 1 == code for before, code in both]
+    left = [s <= before == code <= 255 * s - 1 for before, code in both]
+    assert [sum(ways) for ways in zip(low, high, left)] == [1, 1, 1]
+    assert clips == (sum(low), sum(high))
+    # 'Their sum is the former total.'
+    assert clips.low + clips.high == former_clipped_total(system, words)
+    # Y' is a mean of the values inside INT, so not all are below it and not all above it.
+    assert clips.low < 3 and clips.high < 3
+
+
+def check_clips_of_row(system, samples):
+    """Block reading sums both."""
+    row = read_block(block(system, 0, samples), 3 * len(samples))
+    clips = [codes_of_words(system, words).clips for words in samples]
+    assert row.clips.low == sum(each.low for each in clips) and row.clips.high == sum(each.high for each in clips)
+    assert row.clips.low + row.clips.high == sum(former_clipped_total(system, words) for words in samples)
+
+
+def check_clips():
+    """Request 2026-07 counts what was counted before, each component on one side."""
+    check_clip_cases()
+    random = Random(2026_07)
+    for system in SYSTEMS:
+        samples = list(compared_triples(system, random))
+        samples += BENCH_WORDS if system == 1 else ()
+        samples += (words for of, words, *_ in CLIP_CASES if of == system)
+        for words in samples:
+            check_clips_of_words(system, words)
+        check_clips_of_row(system, samples)
+        check_clips_of_row(system, samples[:1])
 
 
 def check_blocks():
     grey = block(1, 0, [(235, 128, 128)])
     assert grey.hex(" ") == "01 00 00 01 00 eb 00 01 00 80 00 01 00 80 00"
-    assert listing(grey) == "system 1 row 0 samples 1 clipped 0\n235 235 235\n"
+    assert listing(grey) == "system 1 row 0 samples 1 low 0 high 0\n235 235 235\n"
+    clipping = block(1, 7, [(16, 240, 240), (180, 1, 1)])
+    assert listing(clipping) == "system 1 row 7 samples 2 low 3 high 1\n188 1 219\n1 254 1\n"
     wide = block(4, LAST_ROW, [(256, 2048, 2048)] * WIDEST)
     assert len(wide) == 46089
-    assert read_block(wide, 3 * WIDEST) == Row(4, LAST_ROW, WIDEST, 0, [256] * 3 * WIDEST)
+    assert read_block(wide, 3 * WIDEST) == Row(4, LAST_ROW, WIDEST, (0, 0), [256] * 3 * WIDEST)
     assert read_block(wide, 3 * WIDEST - 1) == REFUSED_OUTPUT
 
 
@@ -327,6 +450,7 @@ def check():
     check_rules()
     check_changes()
     check_greys()
+    check_clips()
     check_blocks()
 
 

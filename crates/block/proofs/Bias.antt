@@ -15,12 +15,11 @@ use Rattle.exact.proofs.Difference.{sub-pos, sub-neg, pos-sub, sub-eq}
 use Rattle.systems.specs.declared.Codes.{Codes}
 use Rattle.systems.specs.declared.Matrix.{Matrix}
 use Rattle.systems.specs.declared.Range.{Range}
-use Rattle.matrix.specs.declared.Clips.{Clips}
 use Rattle.matrix.specs.declared.Clipped.{Clipped}
 use Rattle.matrix.specs.declared.Words.{Words}
 use Rattle.matrix.specs.Triples.{natural, _plus_, clipped, beyond, codesAt}
 use Rattle.matrix.specs.Inner.{TwelveBitWords, unclippedAt}
-use Rattle.matrix.proofs.Clipping.{clipped-by, counted}
+use Rattle.matrix.proofs.Clipping.{clipped-by, beyond-by}
 use Rattle.matrix.proofs.DecodingRows.{unclipped-small}
 use Rattle.block.specs.Inner.{biased, unbiased, biasedTriple, Clippable, oneOf, atLeast, atMost}
 
@@ -78,10 +77,8 @@ module _ (n : Range) (v : ℕ) where
           let above = ltb-false v (n .low + 16384) p in
           subst (λ (b : Bool). Held (oneOf b (n .high + 16384) v)) (sym q) (omega arith, ap natural (sym (sub-pos v 16384 (omega arith))) ∙ code false false p q)
 
-  pub beyond-biased : Clippable n →
-      let k = boolByte (ltb v (n .low + 16384)) + boolByte (ltb (n .high + 16384) v) in
-      (k ≡ beyond n (unbiased v) .total) × (k ≤ 1)
-  beyond-biased c = let k = counted n (unbiased v) (c .in-order) in rw (← (low-test v (n .low)), ← (high-test v (n .high))) (ap (λ (t : Clips). t .total) (k .0), k .1)
+  pub beyond-biased : record { low = boolByte (ltb v (n .low + 16384)); high = boolByte (ltb (n .high + 16384) v) } ≡ beyond n (unbiased v)
+  beyond-biased = beyond-by n (unbiased v) (ltb v (n .low + 16384)) (ltb (n .high + 16384) v) (low-test v (n .low)) (high-test v (n .high))
 
 -- ---- of a sample's words
 -- a biased triple clipped to a range, and its clips

@@ -12,7 +12,7 @@ use Rattle.systems.specs.declared.Range.{Range}
 use Rattle.matrix.specs.declared.Clips.{Clips}
 use Rattle.matrix.specs.declared.Clipped.{Clipped}
 use Rattle.matrix.specs.declared.Words.{Words}
-use Rattle.matrix.specs.Triples.{_plus_, clipped, beyond, codesAt}
+use Rattle.matrix.specs.Triples.{noClips, _plus_, clipped, beyond, codesAt}
 use Rattle.matrix.specs.Inner.{TwelveBitWords, unclippedAt}
 use Rattle.matrix.proofs.Clipping.{none-plus, plus-none, plus-assoc}
 use Rattle.block.specs.Read.{rgb, codesTo, clipsTo}
@@ -37,17 +37,18 @@ module _ (r : Range) where
   length-clipped (v ∷ a) = ap suc (length-clipped a)
 
   -- the first i components of a slice are clipped
-  pub record SoFar (slice : List ℕ) (i bad : ℕ) (d : List ℕ) : Type 0 where
+  pub record SoFar (slice : List ℕ) (i : ℕ) (k : Clips) (d : List ℕ) : Type 0 where
     pub within : i ≤ length slice
-    pub few : bad ≤ i
-    pub counted : bad ≡ beyondAll r (take i slice) .total
+    pub few-low : k .low ≤ i
+    pub few-high : k .high ≤ i
+    pub counted : k ≡ beyondAll r (take i slice)
     pub codes : d ≡ clippedAll r (take i slice) ++ drop i slice
 
-  pub none-yet : (slice : List ℕ) → SoFar slice 0 0 slice
+  pub none-yet : (slice : List ℕ) → SoFar slice 0 noClips slice
   unfolding clippedAll beyondAll
-  none-yet slice = record { within = omega arith; few = omega arith; counted = refl; codes = refl }
+  none-yet slice = record { within = omega arith; few-low = omega arith; few-high = omega arith; counted = refl; codes = refl }
 
-  module _ (slice : List ℕ) (i bad : ℕ) (d : List ℕ) (f : SoFar slice i bad d) where
+  module _ (slice : List ℕ) (i : ℕ) (k : Clips) (d : List ℕ) (f : SoFar slice i k d) where
     front-long : length (clippedAll r (take i slice)) ≡ i
     front-long = length-clipped (take i slice) ∙ length-take-le i slice (f .within)
 
@@ -62,29 +63,26 @@ module _ (r : Range) where
       same : getD d i 0 ≡ getD slice i 0
       same = ap (λ (t : List ℕ). getD t i 0) cut ∙ getD-at (clippedAll r (take i slice)) (getD slice i 0) (drop (suc i) slice) 0 i front-long
 
-      pub one-more : (b c : ℕ) → (b ≡ beyond r (unbiased (getD d i 0)) .total) × (b ≤ 1) → c ≡ clipped r (unbiased (getD d i 0)) → SoFar slice (i + 1) (bad + b) (set d i c)
+      pub one-more : (b t : Clips) (c : ℕ) → (b ≡ beyond r (unbiased (getD d i 0))) × (b .low ≤ 1) × (b .high ≤ 1) → t ≡ (k plus b) → c ≡ clipped r (unbiased (getD d i 0)) → SoFar slice (i + 1) t (set d i c)
       unfolding clippedAll beyondAll
-      one-more b c (p, u) q =
+      one-more b t c (p, u, w) e q =
           let front = take i slice in
           let v = getD slice i 0 in
-          let t : take (suc i) slice ≡ front ++ (v ∷ []) = take-suc slice i 0 h in
-          let e = ap (λ (t : Clips). t .total) (beyond-append front (v ∷ [])) in
-          let b' : b ≡ beyond r (unbiased v) .total = p ∙ ap (λ (k : ℕ). beyond r (unbiased k) .total) same in
+          let next : take (suc i) slice ≡ front ++ (v ∷ []) = take-suc slice i 0 h in
+          let b' : b ≡ beyond r (unbiased v) = p ∙ ap (λ (k : ℕ). beyond r (unbiased k)) same in
           let c' : c ≡ clipped r (unbiased v) = q ∙ ap (λ (k : ℕ). clipped r (unbiased k)) same in
-          let m : bad + b ≡ beyondAll r (front ++ (v ∷ [])) .total = omega (arith, f .counted) in
-          rw (add-one i) record {
+          rw (add-one i, e) record {
             within = h;
-            few = omega (arith, f .few);
-            counted = m ∙ ap (λ (l : List ℕ). beyondAll r l .total) (sym t);
-            codes = (λ k. set (cut k) i (c' k)) ∙ set-at (clippedAll r front) v (drop (suc i) slice) (clipped r (unbiased v)) i front-long
+            few-low = omega (arith, f .few-low);
+            few-high = omega (arith, f .few-high);
+            counted = (λ j. f .counted j plus (b' ∙ sym (plus-none (beyond r (unbiased v)))) j) ∙ sym (beyond-append front (v ∷ [])) ∙ ap (beyondAll r) (sym next);
+            codes = (λ j. set (cut j) i (c' j)) ∙ set-at (clippedAll r front) v (drop (suc i) slice) (clipped r (unbiased v)) i front-long
                 ∙ sym (append-snoc (clippedAll r front) (clipped r (unbiased v)) (drop (suc i) slice))
-                ∙ ap (λ (l : List ℕ). l ++ drop (suc i) slice) (sym (clipped-append front (v ∷ [])) ∙ ap (clippedAll r) (sym t));
+                ∙ ap (λ (l : List ℕ). l ++ drop (suc i) slice) (sym (clipped-append front (v ∷ [])) ∙ ap (clippedAll r) (sym next));
           }
 
-  pub all-done : (slice : List ℕ) (n i bad : ℕ) (d : List ℕ) → i ≡ n → SoFar slice i bad d
-      → (record { total = bad } ≡ beyondAll r (take n slice)) × (d ≡ clippedAll r (take n slice) ++ drop n slice)
-  all-done slice n i bad d e f =
-      ((λ k. record { total = f .counted k }) ∙ ap (λ (k : ℕ). beyondAll r (take k slice)) e, f .codes ∙ ap (λ (k : ℕ). clippedAll r (take k slice) ++ drop k slice) e)
+  pub all-done : (slice : List ℕ) (n i : ℕ) (k : Clips) (d : List ℕ) → i ≡ n → SoFar slice i k d → (k ≡ beyondAll r (take n slice)) × (d ≡ clippedAll r (take n slice) ++ drop n slice)
+  all-done slice n i k d e f = (f .counted ∙ ap (λ (j : ℕ). beyondAll r (take j slice)) e, f .codes ∙ ap (λ (j : ℕ). clippedAll r (take j slice) ++ drop j slice) e)
 
 -- ---- a row of words
 module _ (x : Matrix) (s : ℕ) (range : Range) (row : ℕ → Words) (S : s ≤ 16) where

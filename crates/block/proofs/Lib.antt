@@ -4,6 +4,8 @@ pub mod Decoding
 pub mod Bias
 pub mod Clipping
 pub mod Reading
+pub mod Claims
+pub mod LowAndHigh
 pub mod Bytes
 pub mod ReadBack
 pub mod Answerable

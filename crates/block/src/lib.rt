@@ -1,4 +1,4 @@
-// The row block, and reading it (document 01, 'Row block', and request 2026-03).
+// The row block, and reading it (document 01, 'Row block', and requests 2026-03 and 2026-07).
 mod layout;
 
 pub use layout::LUMA_COUNT;
@@ -288,22 +288,22 @@ fn biased(v: i64) -> u16
     (v + BIAS as i64) as u16
 }
 
-// Clips the first components of a slice, which are biased, and counts the clips. A loop of its own, so that
-// several are clipped at a time.
+// Clips the first components of a slice, which are biased, and counts those clipped low and high. A loop of its own, so that several
+// are clipped at a time.
 fn clip_all(range: Range, codes: &mut [u16], count: usize) -> Clips
     requires { ⌜ Clippable range × (count ≤ length (now codes)) × (count ≤ 3 * 7680) ⌝ }
     ensures { λ r. ⌜ r ≡ beyondAll range (take count (now (codes .entry))) ⌝ }
     ensures { λ r. ⌜ now (codes .exit) ≡ clippedAll range (take count (now (codes .entry))) ++ drop count (now (codes .entry)) ⌝ }
 {
-    let mut bad: u16 = 0;
+    let mut clips = Clips::NONE;
     let mut i: usize = 0;
     while i < count {
         let v = codes[i];
-        bad += beyond(range, v);
+        clips = clips.plus(beyond(range, v));
         codes[i] = clip(range, v);
         i += 1;
     }
-    Clips { total: bad as u32 }
+    clips
 }
 
 // The nearer end of the range where a biased component is beyond it.
@@ -326,10 +326,13 @@ fn at_most(v: u16, high: u16) -> u16
     if high < v { high } else { v }
 }
 
-// 1 where a biased component is beyond the range. Both tests are made, so that a loop can take several components at a time.
-fn beyond(n: Range, v: u16) -> u16
+// The clip of a biased component that is beyond the range. Both tests are made, so that a loop can take several components at a time.
+fn beyond(n: Range, v: u16) -> Clips
     requires { ⌜ Clippable n ⌝ }
-    ensures { λ r. ⌜ (r ≡ beyond n (unbiased v) .total) × (r ≤ 1) ⌝ }
+    ensures { λ r. ⌜ (r ≡ beyond n (unbiased v)) × (r .low ≤ 1) × (r .high ≤ 1) ⌝ }
 {
-    (v < n.low + BIAS) as u16 + (n.high + BIAS < v) as u16
+    Clips {
+        low: (v < n.low + BIAS) as u16,
+        high: (n.high + BIAS < v) as u16,
+    }
 }

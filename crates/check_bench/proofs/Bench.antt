@@ -1,5 +1,5 @@
--- The starred bench values of document 01, with those of request 2026-03 in their places and the two lamps of request 2026-04, shown of
--- the definitions: one table, one theorem.
+-- The starred bench values of document 01, with those of request 2026-03 in their places, the two lamps of request 2026-04, and words
+-- that clip low and high in one triple (request 2026-07), shown of the definitions: one table, one theorem.
 -- Assumes nothing.
 use mathlib.Core.Path.{_≡_, refl}
 use mathlib.Core.List.{List, [], _∷_, map}
@@ -37,7 +37,7 @@ answer (signal n bits) =
 answer (codes n e r g b) =
     wordsOfCodes n e (record { r = r; g = g; b = b }) and-then λ l. accepted (l .words .y ∷ l .words .cb ∷ l .words .cr ∷ l .moved ∷ [])
 answer (words n y cb cr) =
-    codesOfWords n (record { y = y; cb = cb; cr = cr }) and-then λ c. accepted (c .codes .r ∷ c .codes .g ∷ c .codes .b ∷ c .clips .total ∷ [])
+    codesOfWords n (record { y = y; cb = cb; cr = cr }) and-then λ c. accepted (c .codes .r ∷ c .codes .g ∷ c .codes .b ∷ c .clips .low ∷ c .clips .high ∷ [])
 
 record Row : Type 0 where
   given : Case
@@ -59,11 +59,12 @@ table =
     ∷ row (signal 1 0x3f00_0000) (126 ∷ 126 ∷ 126 ∷ [])
     ∷ row (signal 2 0x3ec0_0000) (393 ∷ 393 ∷ 393 ∷ [])
     ∷ row (codes 1 Plain 235 16 16) (63 ∷ 102 ∷ 240 ∷ 0 ∷ [])
-    ∷ row (words 1 63 102 240) (235 ∷ 17 ∷ 16 ∷ 0 ∷ [])
+    ∷ row (words 1 63 102 240) (235 ∷ 17 ∷ 16 ∷ 0 ∷ 0 ∷ [])
     ∷ row (codes 1 Plain 16 235 16) (173 ∷ 42 ∷ 26 ∷ 0 ∷ [])
     ∷ row (codes 3 Plain 940 64 64) (294 ∷ 387 ∷ 960 ∷ 0 ∷ [])
-    ∷ row (words 1 16 240 240) (188 ∷ 1 ∷ 219 ∷ 1 ∷ [])
-    ∷ row (words 1 15 128 128) (15 ∷ 15 ∷ 15 ∷ 0 ∷ [])
+    ∷ row (words 1 16 240 240) (188 ∷ 1 ∷ 219 ∷ 1 ∷ 0 ∷ [])
+    ∷ row (words 1 15 128 128) (15 ∷ 15 ∷ 15 ∷ 0 ∷ 0 ∷ [])
+    ∷ row (words 1 180 1 1) (1 ∷ 254 ∷ 1 ∷ 2 ∷ 1 ∷ []) ∷ row (words 1 75 254 254) (254 ∷ 1 ∷ 254 ∷ 1 ∷ 2 ∷ [])
     ∷ record { given = words 1 0 128 128; result = refused 6 }
     ∷ row (codes 1 Plain 1 1 254) (19 ∷ 254 ∷ 116 ∷ 1 ∷ []) ∷ row (codes 1 Trim 1 1 254) (19 ∷ 240 ∷ 116 ∷ 1 ∷ [])
     ∷ row (codes 1 Plain 16 16 250) (33 ∷ 248 ∷ 117 ∷ 0 ∷ []) ∷ row (codes 1 Trim 16 16 250) (33 ∷ 240 ∷ 117 ∷ 1 ∷ [])

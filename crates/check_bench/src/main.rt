@@ -1,5 +1,5 @@
-// The bench values of document 01, with those of request 2026-03 in their places and the two lamps of request 2026-04, run through
-// the public calls, a line each. proofs/Bench.antt has the starred ones as a theorem.
+// The bench values of document 01, with those of request 2026-03 in their places, the two lamps of request 2026-04 and the words of
+// request 2026-07, run through the public calls, a line each. proofs/Bench.antt has the starred ones as a theorem.
 use libc::STDOUT_FILENO;
 use light::CodeSpan;
 use light::LightCode;
@@ -34,6 +34,8 @@ fn main() {
     of_codes(3, 940, 64, 64);
     of_words(1, 16, 240, 240);
     of_words(1, 15, 128, 128);
+    of_words(1, 180, 1, 1);
+    of_words(1, 75, 254, 254);
     of_words(1, 0, 128, 128);
     of_codes(1, 1, 1, 254);
     of_trimmed(1, 1, 1, 254);
@@ -113,8 +115,10 @@ fn of_words(system: u32, y: u16, cb: u16, cr: u16) {
     match matrix::codes_of_words(system, Words { y, cb, cr }) {
         Decoded::Codes(c) => {
             three(c.codes.r, c.codes.g, c.codes.b);
-            io::write_all(STDOUT_FILENO, b" clipped ");
-            number(c.clips.total as u64);
+            io::write_all(STDOUT_FILENO, b" low ");
+            number(c.clips.low as u64);
+            io::write_all(STDOUT_FILENO, b" high ");
+            number(c.clips.high as u64);
         }
         Decoded::Refused(r) => refused(r),
     }

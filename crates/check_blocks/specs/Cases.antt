@@ -39,7 +39,8 @@ caseAt bs i = record {
   system = u16At bs (i + 6);
   row = u16At bs (i + 8);
   samples = u16At bs (i + 10);
-  clipped = u32At bs (i + 12);
+  low = u16At bs (i + 12);
+  high = u16At bs (i + 14);
 }
 
 -- the bytes of a case: the numbers, the block and the codes
@@ -47,7 +48,7 @@ abbrev pub sizeOf : Case → ℕ
 sizeOf c = 16 + c .length + 6 * c .samples
 
 abbrev pub sameHeader : Header → Case → Bool
-sameHeader h c = eqb (number (h .system)) (c .system) && eqb (h .row) (c .row) && eqb (h .samples) (c .samples) && eqb (h .clips .total) (c .clipped)
+sameHeader h c = eqb (number (h .system)) (c .system) && eqb (h .row) (c .row) && eqb (h .samples) (c .samples) && eqb (h .clips .low) (c .low) && eqb (h .clips .high) (c .high)
 
 -- the answer is the case's: its header where the refusal is 0, or its refusal
 abbrev pub agrees : Outcome Header → Case → Bool

@@ -9,7 +9,6 @@ use block::BlockRead;
 use block::Header;
 use check_records::Tally;
 use check_records::u16_at;
-use check_records::u32_at;
 use check_records::wide;
 
 // What stands before a case's block.
@@ -20,7 +19,8 @@ struct Case {
     system: u32,
     row: u16,
     samples: u16,
-    clipped: u32,
+    low: u16,
+    high: u16,
 }
 
 // Compares the cases in which this refusal is due, or for 0 those in which the block is accepted. A case that is cut off differs.
@@ -72,7 +72,8 @@ fn case_at(cases: &[u8], at: usize) -> Case
         system: wide(u16_at(cases, at + 6)),
         row: u16_at(cases, at + 8),
         samples: u16_at(cases, at + 10),
-        clipped: u32_at(cases, at + 12),
+        low: u16_at(cases, at + 12),
+        high: u16_at(cases, at + 14),
     }
 }
 
@@ -126,6 +127,7 @@ impl Case {
         (system.number() == self.system)
             & (header.row == self.row)
             & (header.samples == self.samples)
-            & (header.clips.total == self.clipped)
+            & (header.clips.low == self.low)
+            & (header.clips.high == self.high)
     }
 }

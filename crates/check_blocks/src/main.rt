@@ -4,6 +4,11 @@ mod cases;
 mod slice;
 
 fn main() {
+    check_cases();
+    check_clipped();
+}
+
+fn check_cases() {
     let mut buf = [0u8; 524288];
     let n = check_records::read(b"cases", &mut buf);
     let data = &buf[..n];
@@ -15,4 +20,10 @@ fn main() {
     cases::compare(data, 9).print(b"refused 9:");
     cases::compare(data, 10).print(b"refused 10:");
     cases::compare(data, 11).print(b"refused 11:");
+}
+
+fn check_clipped() {
+    let mut buf = [0u8; 524288];
+    let n = check_records::read(b"clipped", &mut buf);
+    cases::compare(&buf[..n], 0).print(b"accepted, clipped:");
 }

@@ -4,6 +4,9 @@ use libc::STDOUT_FILENO;
 fn main() {
     list(b"grey");
     list(b"clipped");
+    list(b"low");
+    list(b"high");
+    list(b"both");
     list(b"system2");
     list(b"system3");
     list(b"wide");

@@ -26,7 +26,8 @@ callAt bs i = record {
   system = u16At bs (i + 6);
   samples = u16At bs (i + 8);
   bytes = u32At bs (i + 10);
-  clipped = u32At bs (i + 14);
+  low = u16At bs (i + 14);
+  high = u16At bs (i + 16);
   first = u32At bs (i + 18);
   second = u32At bs (i + 22);
   third = u32At bs (i + 26);
@@ -82,7 +83,7 @@ rowsOf Closed = 0
 
 -- a header is that of the row that the call was, the last of the rows accepted
 abbrev pub sameHeader : Header → Call → Bool
-sameHeader h c = eqb (number (h .system)) (c .system) && eqb (h .row + 1) (c .rows) && eqb (h .samples) (c .samples) && eqb (h .clips .total) (c .clipped)
+sameHeader h c = eqb (number (h .system)) (c .system) && eqb (h .row + 1) (c .rows) && eqb (h .samples) (c .samples) && eqb (h .clips .low) (c .low) && eqb (h .clips .high) (c .high)
 
 -- a block reads as this row
 abbrev pub readAs : Outcome Header → Call → Bool

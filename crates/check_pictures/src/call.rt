@@ -32,7 +32,8 @@ pub struct Call {
     system: u32,
     pub samples: u16,
     pub bytes: u32,
-    clipped: u32,
+    low: u16,
+    high: u16,
     first: u32,
     second: u32,
     third: u32,
@@ -49,7 +50,8 @@ pub fn call_at(calls: &[u8], at: usize) -> Call
         system: wide(u16_at(calls, at + 6)),
         samples: u16_at(calls, at + 8),
         bytes: u32_at(calls, at + 10),
-        clipped: u32_at(calls, at + 14),
+        low: u16_at(calls, at + 14),
+        high: u16_at(calls, at + 16),
         first: u32_at(calls, at + 18),
         second: u32_at(calls, at + 22),
         third: u32_at(calls, at + 26),
@@ -150,6 +152,7 @@ impl Call {
         (system.number() == self.system)
             & (header.row as u32 + 1 == self.rows as u32)
             & (header.samples == self.samples)
-            & (header.clips.total == self.clipped)
+            & (header.clips.low == self.low)
+            & (header.clips.high == self.high)
     }
 }

@@ -42,13 +42,20 @@ wordsAgree (refused n) c = eqb n (c .refusal)
 abbrev pub wordsMet : Encoding → WordsCase → Bool
 wordsMet e c = wordsAgree (wordsOfCodes (c .system) e (c .codes)) c
 
--- words to codes: the record of 20 bytes at a place
+-- words to codes: the record of 22 bytes at a place
 abbrev pub codesCase : List ℕ → ℕ → CodesCase
-codesCase bs i = record { system = u32At bs i; refusal = u16At bs (i + 4); words = wordsIn bs (i + 6); codes = codesIn bs (i + 12); count = u16At bs (i + 18) }
+codesCase bs i = record {
+  system = u32At bs i;
+  refusal = u16At bs (i + 4);
+  words = wordsIn bs (i + 6);
+  codes = codesIn bs (i + 12);
+  low = u16At bs (i + 18);
+  high = u16At bs (i + 20);
+}
 
--- the call's answer is the record's: its codes and clipped count where the refusal is 0, or its refusal
+-- the call's answer is the record's: its codes and its clips low and high where the refusal is 0, or its refusal
 abbrev pub codesAgree : Outcome Clipped → CodesCase → Bool
-codesAgree (accepted d) c = eqb (c .refusal) 0 && (eqb (d .clips .total) (c .count) && sameCodes (d .codes) (c .codes))
+codesAgree (accepted d) c = eqb (c .refusal) 0 && (eqb (d .clips .low) (c .low) && eqb (d .clips .high) (c .high) && sameCodes (d .codes) (c .codes))
 codesAgree (refused n) c = eqb n (c .refusal)
 
 abbrev pub codesMet : CodesCase → Bool
@@ -75,7 +82,7 @@ abbrev pub wordsAt : Encoding → List ℕ → ℕ → Bool
 wordsAt e bs i = wordsMet e (wordsCase bs (20 * i))
 
 abbrev pub codesAt : List ℕ → ℕ → Bool
-codesAt bs i = codesMet (codesCase bs (20 * i))
+codesAt bs i = codesMet (codesCase bs (22 * i))
 
 abbrev pub gridAt : List ℕ → ℕ → Bool
 gridAt bs i = gives (wordsOfCodes 1 Plain (gridCodes i)) (gridWords bs (3 * i))

@@ -14,30 +14,31 @@ use matrix::Decoded;
 use matrix::Words;
 use systems::Codes;
 
-// One record: words, and the codes and the clipped count that they have in a system, or the number of the refusal.
+// One record: words, and the codes and the clips low and high that they have in a system, or the number of the refusal.
 struct Case {
     system: u32,
     refusal: u32,
     words: Words,
     codes: Codes,
-    count: u32,
+    low: u16,
+    high: u16,
 }
 
 // Compares the answer for each record with it.
 pub fn compare(records: &[u8]) -> Tally
-    ensures { λ r. ⌜ r ≡ tallyOf 20 codesAt (now (records .entry)) ⌝ }
+    ensures { λ r. ⌜ r ≡ tallyOf 22 codesAt (now (records .entry)) ⌝ }
 {
     let mut tally = Tally::NONE;
     let mut i = 0;
-    while i < records.len() / 20 {
-        tally = tally.with(case_at(records, 20 * i).is_met());
+    while i < records.len() / 22 {
+        tally = tally.with(case_at(records, 22 * i).is_met());
         i += 1;
     }
-    tally.ended(records.len() % 20)
+    tally.ended(records.len() % 22)
 }
 
 fn case_at(records: &[u8], at: usize) -> Case
-    requires { ⌜ at + 20 ≤ length (now records) ⌝ }
+    requires { ⌜ at + 22 ≤ length (now records) ⌝ }
     ensures { λ r. ⌜ r ≡ codesCase (now (records .entry)) at ⌝ }
 {
     Case {
@@ -45,7 +46,8 @@ fn case_at(records: &[u8], at: usize) -> Case
         refusal: wide(u16_at(records, at + 4)),
         words: fields::words(records, at + 6),
         codes: fields::codes(records, at + 12),
-        count: wide(u16_at(records, at + 18)),
+        low: u16_at(records, at + 18),
+        high: u16_at(records, at + 20),
     }
 }
 
@@ -56,7 +58,8 @@ impl Case {
         match matrix::codes_of_words(self.system, self.words) {
             Decoded::Codes(found) => {
                 let same = same::codes(found.codes, self.codes);
-                (self.refusal == 0) & ((found.clips.total == self.count) & same)
+                (self.refusal == 0)
+                    & ((found.clips.low == self.low) & (found.clips.high == self.high) & same)
             }
             Decoded::Refused(refusal) => refusal.number() == self.refusal,
         }

@@ -1,6 +1,6 @@
 -- The samples of the files that reference/zimg_rows.c makes, and how near the conversion is to them. Definitions only.
 use Prim.Native.Nat.{ℕ, zero, suc, _+_, _*_, _-_, _/_, _%_}
-use mathlib.Core.Bool.{Bool, false, cond}
+use mathlib.Core.Bool.{Bool, false, _&&_, cond}
 use mathlib.Core.List.{List}
 use lib.Dec.{eqb, leb}
 use lib.ListN.{length}
@@ -57,7 +57,7 @@ codesNear (refused k) f d = off f
 
 -- no code of ours is clipped
 abbrev pub unclipped : Outcome Clipped → Bool
-unclipped (accepted c) = eqb (c .clips .total) 0
+unclipped (accepted c) = eqb (c .clips .low) 0 && eqb (c .clips .high) 0
 unclipped (refused k) = false
 
 -- the comparison after one sample more

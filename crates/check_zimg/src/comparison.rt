@@ -102,7 +102,7 @@ fn is_unclipped(system: u32, words: Words) -> bool
     ensures { λ r. ⌜ r ≡ unclipped (codesOfWords system words) ⌝ }
 {
     match matrix::codes_of_words(system, words) {
-        Decoded::Codes(clipped) => clipped.clips.total == 0,
+        Decoded::Codes(clipped) => (clipped.clips.low == 0) & (clipped.clips.high == 0),
         Decoded::Refused(_) => false,
     }
 }

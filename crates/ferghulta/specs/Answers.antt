@@ -11,6 +11,7 @@ use Rattle.light.specs.declared.Span.{Span}
 use Rattle.signals.specs.declared.Signals.{Signals}
 use Rattle.matrix.specs.declared.Limited.{Limited}
 use Rattle.matrix.specs.declared.Clipped.{Clipped}
+use Rattle.matrix.specs.Triples.{noClips}
 use Rattle.levels.specs.declared.Level.{Level}
 use Rattle.block.specs.declared.Header.{Header}
 use Rattle.ferghulta.specs.declared.calls.CodeAnswer.{CodeAnswer}
@@ -49,16 +50,16 @@ wordsAnswer (accepted l) = record { refusal = 0; moved = l .moved; words = l .wo
 wordsAnswer (refused n) = record { refusal = n; moved = 0; words = record { y = 0; cb = 0; cr = 0 } }
 
 abbrev pub decodedAnswer : Outcome Clipped → DecodedAnswer
-decodedAnswer (accepted c) = record { refusal = 0; clipped = c .clips .total; codes = c .codes }
-decodedAnswer (refused n) = record { refusal = n; clipped = 0; codes = noCodes }
+decodedAnswer (accepted c) = record { refusal = 0; clips = c .clips; codes = c .codes }
+decodedAnswer (refused n) = record { refusal = n; clips = noClips; codes = noCodes }
 
 abbrev pub levelAnswer : Outcome Level → LevelAnswer
 levelAnswer (accepted l) = record { refusal = 0; level = l }
 levelAnswer (refused n) = record { refusal = n; level = record { millivolts = pos 0; remainder = 0 } }
 
 abbrev pub blockAnswer : Outcome Header → BlockAnswer
-blockAnswer (accepted h) = record { refusal = 0; system = number (h .system); clipped = h .clips .total; row = h .row; samples = h .samples }
-blockAnswer (refused n) = record { refusal = n; system = 0; clipped = 0; row = 0; samples = 0 }
+blockAnswer (accepted h) = record { refusal = 0; system = number (h .system); clips = h .clips; row = h .row; samples = h .samples }
+blockAnswer (refused n) = record { refusal = n; system = 0; clips = noClips; row = 0; samples = 0 }
 
 -- an answer that has no other values is its refusal
 abbrev pub refusalAnswer : Outcome (Unit {0}) → ℕ

@@ -14,6 +14,7 @@ use levels::Level;
 use light::CodeSpan;
 use light::LightCode;
 use light::Span;
+use matrix::Clips;
 use matrix::Decoded;
 use matrix::Encoded;
 use matrix::Encoding;
@@ -57,7 +58,7 @@ pub struct WordsAnswer {
 #[repr(C)]
 pub struct DecodedAnswer {
     pub refusal: u32,
-    pub clipped: u32,
+    pub clips: Clips,
     pub codes: Codes,
 }
 
@@ -71,7 +72,7 @@ pub struct LevelAnswer {
 pub struct BlockAnswer {
     pub refusal: u32,
     pub system: u32,
-    pub clipped: u32,
+    pub clips: Clips,
     pub row: u16,
     pub samples: u16,
 }
@@ -180,16 +181,17 @@ pub extern "C" fn ferghulta_codes_of_words(system: u32, words: Words) -> Decoded
 {
     match matrix::codes_of_words(system, words) {
         Decoded::Codes(c) => {
+            let clips = c.clips;
             let codes = c.codes;
             DecodedAnswer {
                 refusal: 0,
-                clipped: c.clips.total,
+                clips,
                 codes,
             }
         }
         Decoded::Refused(r) => DecodedAnswer {
             refusal: r.number(),
-            clipped: 0,
+            clips: Clips::NONE,
             codes: NO_CODES,
         },
     }
@@ -232,10 +234,11 @@ pub extern "C" fn ferghulta_read_block(bytes: &[u8], codes: &mut [u16]) -> Block
     match block::read_block(bytes, codes) {
         BlockRead::Row(h) => {
             let system = h.system;
+            let clips = h.clips;
             BlockAnswer {
                 refusal: 0,
                 system: system.number(),
-                clipped: h.clips.total,
+                clips,
                 row: h.row,
                 samples: h.samples,
             }
@@ -243,7 +246,7 @@ pub extern "C" fn ferghulta_read_block(bytes: &[u8], codes: &mut [u16]) -> Block
         BlockRead::Refused(r) => BlockAnswer {
             refusal: r.number(),
             system: 0,
-            clipped: 0,
+            clips: Clips::NONE,
             row: 0,
             samples: 0,
         },

@@ -2,7 +2,7 @@
 ghost use mathlib.Core.Path.{_≡_};
 ghost use Rattle.ferghulta.specs.Version.{version};
 
-const MAJOR: u32 = 4;
+const MAJOR: u32 = 5;
 
 const MINOR: u32 = 0;
 

@@ -1,4 +1,4 @@
--- The listing of a row block (document 01, 'Bench values': the program `rowlist`), as ASCII bytes. Definitions only.
+-- The listing of a row block (document 01, 'Bench values': the program `rowlist`, and request 2026-07), as ASCII bytes. Definitions only.
 use Prim.Native.Nat.{ℕ, zero, suc, _+_, _/_, _%_}
 use mathlib.Core.Bool.{cond}
 use mathlib.Core.List.{List, [], _∷_, _++_}
@@ -6,6 +6,7 @@ use lib.Dec.{ltb}
 use Rattle.exact.specs.Outcome.{Outcome, accepted, refused}
 use Rattle.systems.specs.declared.Codes.{Codes}
 use Rattle.systems.specs.Systems.{number}
+use Rattle.matrix.specs.declared.Clips.{Clips}
 use Rattle.block.specs.declared.Header.{Header}
 use Rattle.block.specs.Read.{rowOf, headerOf}
 
@@ -40,19 +41,27 @@ rowWord = 32 ∷ 114 ∷ 111 ∷ 119 ∷ 32 ∷ []
 abbrev pub samplesWord : List ℕ
 samplesWord = 32 ∷ 115 ∷ 97 ∷ 109 ∷ 112 ∷ 108 ∷ 101 ∷ 115 ∷ 32 ∷ []
 
--- ' clipped '
-abbrev pub clippedWord : List ℕ
-clippedWord = 32 ∷ 99 ∷ 108 ∷ 105 ∷ 112 ∷ 112 ∷ 101 ∷ 100 ∷ 32 ∷ []
+-- ' low '
+abbrev pub lowWord : List ℕ
+lowWord = 32 ∷ 108 ∷ 111 ∷ 119 ∷ 32 ∷ []
+
+-- ' high '
+abbrev pub highWord : List ℕ
+highWord = 32 ∷ 104 ∷ 105 ∷ 103 ∷ 104 ∷ 32 ∷ []
 
 -- 'refused '
 abbrev pub refusedWord : List ℕ
 refusedWord = 114 ∷ 101 ∷ 102 ∷ 117 ∷ 115 ∷ 101 ∷ 100 ∷ 32 ∷ []
 
--- the header: system, row number, count and clipped total
+-- the components clipped low and high, which end the header (request 2026-07)
+unfoldable pub clipsEnd : Clips → List ℕ
+clipsEnd c = lowWord ++ decimal (c .low) ++ highWord ++ decimal (c .high) ++ lineEnd
+
+-- the header: system, row number, count and clips
 unfoldable pub headerLine : Header → List ℕ
 headerLine h =
     systemWord ++ decimal (number (h .system)) ++ rowWord ++ decimal (h .row)
-    ++ samplesWord ++ decimal (h .samples) ++ clippedWord ++ decimal (h .clips .total) ++ lineEnd
+    ++ samplesWord ++ decimal (h .samples) ++ clipsEnd (h .clips)
 
 -- R, G and B of a sample
 unfoldable pub line : Codes → List ℕ

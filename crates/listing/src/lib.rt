@@ -1,4 +1,4 @@
-// The listing of a block that the program rowlist prints (document 01, 'Bench values').
+// The listing of a block that the program rowlist prints (document 01, 'Bench values', and request 2026-07).
 mod text;
 
 ghost use mathlib.Core.Path.{_≡_};
@@ -7,10 +7,11 @@ ghost use Prim.Native.Nat.{_+_, _*_, _≤_};
 ghost use lib.ListN.{length, drop};
 ghost use Rattle.io.specs.Counts.{Counts};
 ghost use Rattle.systems.specs.Refusals.{refusal};
-ghost use Rattle.listing.specs.Listing.{decimal, headerLine, linesTo, refusedLine, listing};
+ghost use Rattle.listing.specs.Listing.{decimal, clipsEnd, headerLine, linesTo, refusedLine, listing};
 ghost use Rattle.listing.specs.Inner.{Put, tripleAt};
 use block::BlockRead;
 use block::Header;
+use matrix::Clips;
 use systems::Codes;
 use systems::Refusal;
 
@@ -18,14 +19,14 @@ use systems::Refusal;
 pub fn list(input: i32, output: i32) {
     let mut bytes = [0u8; 46090];
     let n = io::read_full(input, &mut bytes);
-    let mut text = [0u8; 138312];
+    let mut text = [0u8; 138324];
     let used = put_listing(&bytes[..n], &mut text);
     io::write_all(output, &text[..used]);
 }
 
 // Puts the listing of a block to the front of a buffer that has room for any, and answers with its length.
 fn put_listing(bytes: &[u8], text: &mut [u8]) -> usize
-    requires { ⌜ 138312 ≤ length (now text) ⌝ }
+    requires { ⌜ 138324 ≤ length (now text) ⌝ }
     ensures { λ r. ⌜ r ≡ length (listing (now (bytes .entry))) ⌝ }
     ensures { λ r. ⌜ now (text .exit) ≡ listing (now (bytes .entry)) ++ drop r (now (text .entry)) ⌝ }
     ensures { λ r. ⌜ Counts r (now (text .exit)) ⌝ }
@@ -38,7 +39,7 @@ fn put_listing(bytes: &[u8], text: &mut [u8]) -> usize
 }
 
 fn put_refusal(text: &mut [u8], why: Refusal) -> usize
-    requires { ⌜ 72 ≤ length (now text) ⌝ }
+    requires { ⌜ 84 ≤ length (now text) ⌝ }
     ensures { λ r. ⌜ Put (now (text .entry)) 0 (refusedLine (refusal why)) (now (text .exit)) r ⌝ }
 {
     let number = put_field(text, 0, b"refused ", why.number());
@@ -47,7 +48,7 @@ fn put_refusal(text: &mut [u8], why: Refusal) -> usize
 
 // Puts the header, and a line for each sample.
 fn put_row(text: &mut [u8], header: Header, codes: &[u16]) -> usize
-    requires { ⌜ (72 + 18 * header .samples ≤ length (now text)) × (3 * header .samples ≤ length (now codes)) ⌝ }
+    requires { ⌜ (84 + 18 * header .samples ≤ length (now text)) × (3 * header .samples ≤ length (now codes)) ⌝ }
     ensures { λ r. ⌜ Put (now (text .entry)) 0 (headerLine header ++ linesTo (tripleAt (now (codes .entry))) (header .samples)) (now (text .exit)) r ⌝ }
 {
     let used = put_header(text, header);
@@ -55,15 +56,24 @@ fn put_row(text: &mut [u8], header: Header, codes: &[u16]) -> usize
 }
 
 fn put_header(text: &mut [u8], header: Header) -> usize
-    requires { ⌜ 72 ≤ length (now text) ⌝ }
-    ensures { λ r. ⌜ Put (now (text .entry)) 0 (headerLine header) (now (text .exit)) r × (r ≤ 72) ⌝ }
+    requires { ⌜ 84 ≤ length (now text) ⌝ }
+    ensures { λ r. ⌜ Put (now (text .entry)) 0 (headerLine header) (now (text .exit)) r × (r ≤ 84) ⌝ }
 {
     let system = header.system;
     let after_system = put_field(text, 0, b"system ", system.number());
     let after_row = put_field(text, after_system, b" row ", header.row as u32);
     let after_samples = put_field(text, after_row, b" samples ", header.samples as u32);
-    let after_clipped = put_field(text, after_samples, b" clipped ", header.clips.total);
-    text::put_word(text, after_clipped, b"\n")
+    put_clips(text, after_samples, header.clips)
+}
+
+// Puts the components clipped low and high, and ends the line.
+fn put_clips(text: &mut [u8], used: usize, clips: Clips) -> usize
+    requires { ⌜ used + 32 ≤ length (now text) ⌝ }
+    ensures { λ r. ⌜ Put (now (text .entry)) used (clipsEnd clips) (now (text .exit)) r × (r ≤ used + 32) ⌝ }
+{
+    let after_low = put_field(text, used, b" low ", clips.low as u32);
+    let after_high = put_field(text, after_low, b" high ", clips.high as u32);
+    text::put_word(text, after_high, b"\n")
 }
 
 // Puts a word and a number, which takes 10 digits at most.

@@ -4,7 +4,7 @@ use mathlib.Core.Path.{_≡_, refl, sym, ap, _∙_, subst}
 use mathlib.Core.Bool.{Bool, true, false}
 use mathlib.Core.Logic.{_⊎_, inl, inr}
 use Prim.Native.Nat.{ℕ, _+_, _-_, _≤_, _<_}
-use native.Mathlib.Nat.{le-refl, add-assoc}
+use native.Mathlib.Nat.{le-refl, add-zero, zero-add, add-assoc}
 use native.Mathlib.Omega.{arith}
 use lib.Dec.{T, ltb}
 use lib.IntN.{ℤ, pos, negsuc, natAbs, subℕ}
@@ -23,13 +23,13 @@ use Rattle.matrix.specs.Triples.{redOf, greenOf, blueOf, natural, noClip
 
 -- ---- counts together
 pub none-plus : (a : Clips) → noClips plus a ≡ a
-none-plus a = let e : 0 + a .total ≡ a .total = omega arith in λ i. record { total = e i }
+none-plus a = λ i. record { low = zero-add (a .low) i; high = zero-add (a .high) i }
 
 pub plus-none : (a : Clips) → a plus noClips ≡ a
-plus-none a = let e : a .total + 0 ≡ a .total = omega arith in λ i. record { total = e i }
+plus-none a = λ i. record { low = add-zero (a .low) i; high = add-zero (a .high) i }
 
 pub plus-assoc : (a b c : Clips) → (a plus b) plus c ≡ a plus (b plus c)
-plus-assoc a b c = λ i. record { total = add-assoc (a .total) (b .total) (c .total) i }
+plus-assoc a b c = λ i. record { low = add-assoc (a .low) (b .low) (c .low) i; high = add-assoc (a .high) (b .high) (c .high) i }
 
 inside : (v : ℤ) (low high : ℕ) → ltZ v (pos low) ≡ false → ltZ (pos high) v ≡ false → (low ≤ natural v) × (natural v ≤ high)
 inside (pos n) low high l h = (ltb-false n low l, ltb-false high n h)
@@ -45,31 +45,23 @@ pub natural-inside : (n : Range) (v : ℤ) → ltZ v (pos (n .low)) ≡ false �
 natural-inside n (pos a) l h = (tt, ltb-false (n .high) a h, clipped-by n (pos a) false false l h)
 natural-inside n (negsuc a) l h = absurd (subst T l tt)
 
-beyond-by : (n : Range) (v : ℤ) (l h : Bool) → ltZ v (pos (n .low)) ≡ l → ltZ (pos (n .high)) v ≡ h → record { total = elim l [ true ↦ 1 | false ↦ elim h [ true ↦ 1 | false ↦ 0 ] ] } ≡ beyond n v
-beyond-by n v l h p q = sym (λ i. record { total = elim (p i) [ true ↦ 1 | false ↦ elim (q i) [ true ↦ 1 | false ↦ 0 ] ] })
+pub beyond-by : (n : Range) (v : ℤ) (l h : Bool) → ltZ v (pos (n .low)) ≡ l → ltZ (pos (n .high)) v ≡ h → record { low = boolByte l; high = boolByte h } ≡ beyond n v
+beyond-by n v l h p q = λ i. record { low = (tested l ∙ ap oneWhere (sym p)) i; high = (tested h ∙ ap oneWhere (sym q)) i }
+  where
+    oneWhere : Bool → ℕ
+    oneWhere t = elim t [ true ↦ 1 | false ↦ 0 ]
+
+    tested : (t : Bool) → boolByte t ≡ oneWhere t
+    tested true = refl
+    tested false = refl
 
 pub not-both : (n : Range) (v : ℤ) → n .low ≤ n .high → ltZ v (pos (n .low)) ≡ true → ltZ (pos (n .high)) v ≡ true → ⊥
 not-both n (pos a) o l h = omega (arith, ltb-true a (n .low) l, ltb-true (n .high) a h)
 not-both n (negsuc a) o l h = subst T (sym h) tt
 
-pub counted : (n : Range) (v : ℤ) → n .low ≤ n .high →
-    let k = boolByte (ltZ v (pos (n .low))) + boolByte (ltZ (pos (n .high)) v) in
-    (record { total = k } ≡ beyond n v) × (k ≤ 1)
-counted n v o = go (ltZ v (pos (n .low))) (ltZ (pos (n .high)) v) refl refl
-  where
-    go : (l h : Bool) → ltZ v (pos (n .low)) ≡ l → ltZ (pos (n .high)) v ≡ h → (record { total = boolByte l + boolByte h } ≡ beyond n v) × (boolByte l + boolByte h ≤ 1)
-    go true true p q = absurd (not-both n v o p q)
-    go true false p q = (beyond-by n v true false p q, omega arith)
-    go false true p q = (beyond-by n v false true p q, omega arith)
-    go false false p q = (beyond-by n v false false p q, omega arith)
-
-beyond-at-most-one : (n : Range) (v : ℤ) → beyond n v .total ≤ 1
-beyond-at-most-one n v = by-tests (ltZ v (pos (n .low))) (ltZ (pos (n .high)) v)
-  where
-    by-tests : (l h : Bool) → elim l [ true ↦ 1 | false ↦ elim h [ true ↦ 1 | false ↦ 0 ] ] ≤ 1
-    by-tests true h = omega arith
-    by-tests false true = omega arith
-    by-tests false false = omega arith
+pub at-most-one : (t : Bool) → boolByte t ≤ 1
+at-most-one true = omega arith
+at-most-one false = omega arith
 
 pub clipped-within : (n : Range) (v : ℤ) → n .low ≤ n .high → (n .low ≤ clipped n v) × (clipped n v ≤ n .high)
 clipped-within n v h = by-tests (ltZ v (pos (n .low))) (ltZ (pos (n .high)) v) refl refl
@@ -80,13 +72,6 @@ clipped-within n v h = by-tests (ltZ v (pos (n .low))) (ltZ (pos (n .high)) v) r
     by-tests true t e f = (le-refl (n .low), h)
     by-tests false true e f = (h, le-refl (n .high))
     by-tests false false e f = inside v (n .low) (n .high) e f
-
--- of any words at all
-pub clipped-at-most-three : (x : Matrix) (s : ℕ) (n : Range) (w : Words) → codesAt x s n w .clips .total ≤ 3
-unfolding codesAt
-clipped-at-most-three x s n w =
-    let one = beyond-at-most-one n in
-    omega (arith, one (rounded (redOf x s w)), one (rounded (greenOf x s w)), one (rounded (blueOf x s w)))
 
 pub codes-in-range : (x : Matrix) (s : ℕ) (n : Range) (w : Words) → n .low ≤ n .high → CodesIn n (codesAt x s n w .codes)
 unfolding codesAt

@@ -10,5 +10,6 @@ pub mod Tested
 pub mod Claims
 pub mod Rules
 pub mod Order
+pub mod LowAndHigh
 pub mod Return
 pub mod ColourDifference

@@ -123,7 +123,3 @@ fromFixed z = shrZ (z +ℤ pos (unit / 2 + (reach + reach))) unit
 -- R, G and B before they are clipped
 unfoldable pub unclippedAt : Matrix → ℕ → Words → Unclipped
 unclippedAt x s w = record { r = rounded (redOf x s w); g = rounded (greenOf x s w); b = rounded (blueOf x s w) }
-
--- a range that is not empty
-abbrev pub InOrder : Range → Type 0
-InOrder n = n .low ≤ n .high

@@ -1,5 +1,5 @@
--- Codes to words and back (document 01, 'Triples', and requests 2026-03 and 2026-04). Inside INT stands the exact rational, here as
--- one ratio.
+-- Codes to words and back (document 01, 'Triples', and requests 2026-03, 2026-04 and 2026-07). Inside INT stands the exact rational,
+-- here as one ratio.
 -- Definitions only.
 use Prim.Native.Nat.{ℕ, _+_, _*_, _-_}
 use mathlib.Core.Bool.{Bool, true, false, _&&_, _||_}
@@ -131,15 +131,15 @@ greenOf x s w = record {
 
 -- no clips, and two counts of clips together
 abbrev pub noClips : Clips
-noClips = record { total = 0 }
+noClips = record { low = 0; high = 0 }
 
 infixl 6 _plus_
 abbrev pub _plus_ : Clips → Clips → Clips
-a plus b = record { total = a .total + b .total }
+a plus b = record { low = a .low + b .low; high = a .high + b .high }
 
--- a component that is clipped
+-- the clips of a component (request 2026-07): one low where it is below the range, one high where it is above it
 abbrev pub beyond : Range → ℤ → Clips
-beyond r v = record { total = elim (ltZ v (pos (r .low))) [ true ↦ 1 | false ↦ elim (ltZ (pos (r .high)) v) [ true ↦ 1 | false ↦ 0 ] ] }
+beyond r v = record { low = elim (ltZ v (pos (r .low))) [ true ↦ 1 | false ↦ 0 ]; high = elim (ltZ (pos (r .high)) v) [ true ↦ 1 | false ↦ 0 ] }
 
 -- the codes of a triple of words, clipped to the range n, and their clips
 unfoldable pub codesAt : Matrix → ℕ → Range → Words → Clipped

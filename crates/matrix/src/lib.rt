@@ -1,4 +1,4 @@
-// Codes to words and back (document 01, 'Triples', and requests 2026-03 and 2026-04).
+// Codes to words and back (document 01, 'Triples', and requests 2026-03, 2026-04 and 2026-07).
 use systems::Codes;
 use systems::Matrix;
 use systems::Named;
@@ -13,7 +13,7 @@ ghost use lib.Signed.{_<ℤ_};
 ghost use Rattle.exact.specs.Signed.{rounded};
 ghost use Rattle.systems.specs.Systems.{matrix, scale, videoData};
 ghost use Rattle.matrix.specs.Triples.{encodedAt, worded, wordsAt, limited, codesAt, wordsOfCodes, codesOfWords, wordsOutcome, codesOutcome, nominalWords, wordsWithin, _plus_, outside, clipped, rules, ruled, beyond};
-ghost use Rattle.matrix.specs.Inner.{triple, NominalCodes, TwelveBitCodes, TwelveBitWords, WordSized, Small, dotted, encodingRows, colourDifference, decodingRows, unclippedAt, fixed, fromFixed, InOrder};
+ghost use Rattle.matrix.specs.Inner.{triple, NominalCodes, TwelveBitCodes, TwelveBitWords, WordSized, Small, dotted, encodingRows, colourDifference, decodingRows, unclippedAt, fixed, fromFixed};
 
 // Y', Cb and Cr words of a sample.
 #[repr(C)]
@@ -61,9 +61,11 @@ pub struct Unclipped {
     pub b: i64,
 }
 
-// How many components were brought to an end of the range that they were beyond.
+// How many components were brought up to the lower end of a range, and how many down to its upper end.
+#[repr(C)]
 pub struct Clips {
-    pub total: u32,
+    pub low: u16,
+    pub high: u16,
 }
 
 // The codes of a sample's words, and their clips.
@@ -161,12 +163,15 @@ impl Words {
 }
 
 impl Clips {
-    fn plus(self, other: Clips) -> Clips
-        requires { ⌜ self .total + other .total < 2 ^ 32 ⌝ }
+    pub const NONE: Clips = Clips { low: 0, high: 0 };
+
+    pub fn plus(self, other: Clips) -> Clips
+        requires { ⌜ (self .low + other .low < 2 ^ 16) × (self .high + other .high < 2 ^ 16) ⌝ }
         ensures { λ r. ⌜ r ≡ self plus other ⌝ }
     {
         Clips {
-            total: self.total + other.total,
+            low: self.low + other.low,
+            high: self.high + other.high,
         }
     }
 }
@@ -291,7 +296,7 @@ fn colour_difference(above: i64, weight: i64, middle: u16) -> i64
 
 // The codes of one triple, clipped to a range.
 fn codes_in(y: System, n: Range, w: Words) -> Clipped
-    requires { ⌜ TwelveBitWords w × InOrder n ⌝ }
+    requires { ⌜ TwelveBitWords w ⌝ }
     ensures { λ r. ⌜ r ≡ codesAt (matrix y) (scale y) n w ⌝ }
 {
     let v = unclipped_in(y, w);
@@ -406,10 +411,10 @@ fn clip(n: Range, v: i64) -> u16
 
 // The clip of a component that is beyond the range.
 fn beyond(n: Range, v: i64) -> Clips
-    requires { ⌜ InOrder n ⌝ }
-    ensures { λ r. ⌜ (r ≡ beyond n v) × (r .total ≤ 1) ⌝ }
+    ensures { λ r. ⌜ (r ≡ beyond n v) × (r .low ≤ 1) × (r .high ≤ 1) ⌝ }
 {
     Clips {
-        total: (v < n.low as i64) as u32 + ((n.high as i64) < v) as u32,
+        low: (v < n.low as i64) as u16,
+        high: ((n.high as i64) < v) as u16,
     }
 }

@@ -1,14 +1,15 @@
-use native.Mathlib.Omega.{arith}
+use lib.Dec.{ltb}
+use Prim.Native.Nat.{_+_}
 use borrow.Author.Needs.{needs}
+use Rattle.matrix.proofs.Clipping.{at-most-one}
 use Rattle.block.proofs.Bias.{beyond-biased}
 use Rattle.block.proofs.beyond.Statement.{statement}
 use Rattle.block.proofs.beyond.Tie as tie
 
-add-result-3 : tie.Need-add-result-3
-add-result-3 c = omega (arith, beyond-biased (c .before .before .args .n) (c .before .before .args .v) (c .before .before .pre) .1)
-
 returns : tie.Need-returns
-returns c = beyond-biased (c .before .before .args .n) (c .before .before .args .v) (c .before .before .pre)
+returns c =
+    let s = c .before .before .args in
+    (beyond-biased (s .n) (s .v), at-most-one (ltb (s .v) (s .n .low + 16384)), at-most-one (ltb (s .n .high + 16384) (s .v)))
 
 pub beyond-spec : {M : Type 1} → statement M
-beyond-spec = tie.close (tie.spec (λ c. search needs) (λ c. search needs) (λ c. search needs) (λ c. search needs) add-result-3 returns)
+beyond-spec = tie.close (tie.spec (λ c. search needs) (λ c. search needs) (λ c. search needs) (λ c. search needs) returns)

@@ -9,10 +9,10 @@ use Rattle.block.proofs.clip_all.Statement.{statement}
 use Rattle.block.proofs.clip_all.Tie as tie
 
 abbrev Inv-loop : tie.InvT-loop
-Inv-loop range codes₀ count bad₀ i₀ codes bad i = (i ≤ count) × SoFar range codes₀ i bad codes
+Inv-loop range codes₀ count clips₀ i₀ codes clips i = (i ≤ count) × SoFar range codes₀ i clips codes
 
 abbrev μ-loop : tie.MeasureT-loop
-μ-loop range codes₀ count bad₀ i₀ codes bad i = count - i
+μ-loop range codes₀ count clips₀ i₀ codes clips i = count - i
 
 loop-holds : tie.Need-loop-holds Inv-loop μ-loop
 loop-holds c = (omega arith, none-yet _ _)
@@ -20,18 +20,18 @@ loop-holds c = (omega arith, none-yet _ _)
 slice-read-v : tie.Need-slice-read-v Inv-loop μ-loop
 slice-read-v c = let l = c .before .before .loop in omega (arith, so-far-long _ _ _ _ _ (l .inv .1))
 
-add-bad : tie.Need-add-bad Inv-loop μ-loop
-add-bad c = omega (arith, c .before .before .before .loop .inv .1 .few)
+plus-requires : tie.Need-plus-requires Inv-loop μ-loop
+plus-requires c κs = let l = c .before .before .before .loop in (omega (arith, l .inv .1 .few-low), omega (arith, l .inv .1 .few-high))
 
 slice-write-codes : tie.Need-slice-write-codes Inv-loop μ-loop
-slice-write-codes c = let l = c .before .before .before .before .loop in omega (arith, so-far-long _ _ _ _ _ (l .inv .1))
+slice-write-codes c = let l = c .before .before .before .before .before .loop in omega (arith, so-far-long _ _ _ _ _ (l .inv .1))
 
 loop-again : tie.Need-loop-again Inv-loop μ-loop
 loop-again c =
-    let s = c .before .before .before .before .before .before in
-    let l = c .before .before .before .before .loop in
-    let h : l .i < length (now (s .args .codes)) = omega arith in
-    (omega arith, one-more (s .args .range) (now (s .args .codes)) (l .i) (l .bad) (l .codes) (l .inv .1) h _ _ (c .before .beyond .ensures) (c .clip .ensures))
+    let l = c .before .before .before .before .before in
+    let s = l .before .before in
+    let h : l .loop .i < length (now (s .args .codes)) = omega arith in
+    (omega arith, one-more (s .args .range) (now (s .args .codes)) (l .loop .i) (l .loop .clips) (l .loop .codes) (l .loop .inv .1) h _ _ _ (c .before .before .beyond .ensures) (c .before .plus .ensures) (c .clip .ensures))
 
 same-length : tie.Need-same-length Inv-loop μ-loop
 same-length c = so-far-long _ _ _ _ _ (c .before .loop .inv .1)
@@ -45,6 +45,6 @@ returns c =
 pub clip-all-spec : {M : Type 1} → statement M
 clip-all-spec =
     tie.close
-    (tie.spec Inv-loop μ-loop loop-holds (λ c. search needs) slice-read-v (λ c κs. c .before .before .before .before .pre .0) add-bad
-    (λ c κs. c .before .before .before .before .before .pre .0) (λ c. search needs) slice-write-codes (λ c. search needs)
-    (λ c. search needs) loop-again (λ c. record { fits = omega (arith, c .before .loop .inv .1 .few) }) same-length returns)
+    (tie.spec Inv-loop μ-loop loop-holds (λ c. search needs) slice-read-v (λ c κs. c .before .before .before .before .pre .0) plus-requires
+    (λ c κs. search needs) (λ c. search needs) slice-write-codes (λ c. search needs)
+    (λ c. search needs) loop-again same-length returns)

@@ -1,11 +1,12 @@
-use mathlib.Core.Path.{_≡_}
+use mathlib.Core.Path.{_≡_, refl}
 use native.Mathlib.Omega.{arith}
 use lib.IntN.{pos}
+use lib.Signed.{ltZ}
 use mir.Syntax.{w64}
 use mir.Val.{toZ, ofZ}
 use mir.ValLaws.{toZ-ofZ, toZ-pos}
 use borrow.Author.Needs.{needs}
-use Rattle.matrix.proofs.Clipping.{counted}
+use Rattle.matrix.proofs.Clipping.{beyond-by, at-most-one}
 use Rattle.matrix.proofs.beyond.Statement.{statement}
 use Rattle.matrix.proofs.beyond.Tie as tie
 
@@ -22,11 +23,11 @@ module _ (c : tie.After-struct-known2) where
   high-read : toZ w64 (s .args .n .high) ≡ pos (s .args .n .high)
   high-read = toZ-pos w64 (s .args .n .high) (omega (arith, c .struct-known2 .given))
 
-add-t9 : tie.Need-add-t9
-add-t9 c = rw (read c, low-read c, high-read c) record { fits = omega (arith, counted (s c .args .n) (s c .args .v) (s c .pre) .1) }
-
 returns : tie.Need-returns
-returns c = rw (read c, low-read c, high-read c) (counted (s c .args .n) (s c .args .v) (s c .pre))
+returns c =
+    let low = ltZ (s c .args .v) (pos (s c .args .n .low)) in
+    let high = ltZ (pos (s c .args .n .high)) (s c .args .v) in
+    rw (read c, low-read c, high-read c) (beyond-by (s c .args .n) (s c .args .v) low high refl refl, at-most-one low, at-most-one high)
 
 pub beyond-spec : {M : Type 1} → statement M
-beyond-spec = tie.close (tie.spec (λ c. search needs) (λ c. search needs) (λ c. search needs) (λ c. search needs) add-t9 returns)
+beyond-spec = tie.close (tie.spec (λ c. search needs) (λ c. search needs) (λ c. search needs) (λ c. search needs) returns)

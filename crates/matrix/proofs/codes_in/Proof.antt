@@ -15,11 +15,11 @@ use Rattle.matrix.proofs.codes_in.Tie as tie
 components-read : (c : tie.After-unclipped-in) → let v = c .unclipped-in .result in (toZ w64 (ofZ w64 (v .r)) ≡ v .r) × (toZ w64 (ofZ w64 (v .g)) ≡ v .g) × (toZ w64 (ofZ w64 (v .b)) ≡ v .b)
 components-read c =
     let s = c .before in
-    let small = unclipped-small (scale (s .args .y)) (s .args .w) (scale-range (s .args .y) .1) (s .pre .0) (matrix (s .args .y)) in
+    let small = unclipped-small (scale (s .args .y)) (s .args .w) (scale-range (s .args .y) .1) (s .pre) (matrix (s .args .y)) in
     rw (c .unclipped-in .ensures) (reads-back _ (omega (arith, small .0)), reads-back _ (omega (arith, small .1)), reads-back _ (omega (arith, small .2)))
 
 plus-requires-2 : tie.Need-plus-requires-2
-plus-requires-2 c κs = rw (c .before .before .plus .ensures) (omega arith)
+plus-requires-2 c κs = rw (c .before .before .plus .ensures) (omega arith, omega arith)
 
 returns : tie.Need-returns
 unfolding codesAt unclippedAt

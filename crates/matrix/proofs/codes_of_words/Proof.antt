@@ -1,9 +1,7 @@
 use mathlib.Core.Path.{_≡_, _∙_, sym}
 use mathlib.Core.Bool.{true}
-use native.Mathlib.Omega.{arith}
 use borrow.Author.Needs.{needs}
 use Rattle.systems.specs.Systems.{videoData}
-use Rattle.systems.proofs.Scales.{scale-range}
 use Rattle.matrix.specs.Triples.{wordsWithin}
 use Rattle.matrix.proofs.Tested.{twelve-bits}
 use Rattle.matrix.proofs.codes_of_words.Statement.{statement}
@@ -15,9 +13,7 @@ passed : (c : tie.Then1) →
 passed c = rw (c .before .before .video-data .ensures) at (sym (c .before .all-in .ensures) ∙ c .if1 .taken)
 
 codes-in-requires : tie.Need-codes-in-requires
-codes-in-requires c κs =
-    let y = c .before .before .before .before .y .given .0 .0 in
-    (twelve-bits y _ (passed c), rw (c .before .before .video-data .ensures) (omega (arith, scale-range y .0)))
+codes-in-requires c κs = twelve-bits (c .before .before .before .before .y .given .0 .0) _ (passed c)
 
 returns : tie.Need-returns
 returns c =

@@ -8,10 +8,10 @@ use Rattle.check_triples.proofs.codes.compare.Statement.{statement}
 use Rattle.check_triples.proofs.codes.compare.Tie as tie
 
 abbrev Inv-loop : tie.InvT-loop
-Inv-loop records tally₀ i₀ tally i = Counted (codesAt records) (length records / 20) i tally
+Inv-loop records tally₀ i₀ tally i = Counted (codesAt records) (length records / 22) i tally
 
 abbrev μ-loop : tie.MeasureT-loop
-μ-loop records tally₀ i₀ tally i = length records / 20 - i
+μ-loop records tally₀ i₀ tally i = length records / 22 - i
 
 loop-holds : tie.Need-loop-holds Inv-loop μ-loop
 loop-holds c = none-yet _ _

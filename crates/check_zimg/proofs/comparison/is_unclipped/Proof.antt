@@ -7,7 +7,7 @@ use Rattle.check_zimg.proofs.comparison.is_unclipped.Tie as tie
 
 returns : tie.Need-returns
 returns c =
-    let outcome = ap codesOutcome (sym (c .before .before .clipped .given .1)) ∙ c .before .before .before .before .codes-of-words .ensures in
+    let outcome = ap codesOutcome (sym (c .before .before .before .clipped .given .1)) ∙ c .before .before .before .before .before .codes-of-words .ensures in
     ap unclipped outcome
 
 returns-2 : tie.Need-returns-2

@@ -8,7 +8,7 @@ use Rattle.ferghulta.proofs.calls.ferghulta_codes_of_words.Statement.{s
 use Rattle.ferghulta.proofs.calls.ferghulta_codes_of_words.Tie as tie
 
 returns : tie.Need-returns
-returns c = ap decodedAnswer (sym (ap codesOutcome (c .before .before .c .given .1)) ∙ c .before .before .before .before .codes-of-words .ensures)
+returns c = ap decodedAnswer (sym (ap codesOutcome (c .before .before .before .c .given .1)) ∙ c .before .before .before .before .before .codes-of-words .ensures)
 
 returns-2 : tie.Need-returns-2
 returns-2 c = ap (λ (n : ℕ). decodedAnswer (refused n)) (c .number .ensures) ∙ ap decodedAnswer (sym (ap codesOutcome (c .before .before .r .given .1)) ∙ c .before .before .before .before .codes-of-words .ensures)

@@ -9,8 +9,8 @@ use Rattle.ferghulta.proofs.calls.ferghulta_read_block.Tie as tie
 
 returns : tie.Need-returns
 returns c =
-    let read = c .before .before .before .before .before .before .read-block .ensures in
-    (rw (c .number .ensures) (ap blockAnswer (sym (ap headerOutcome (c .before .before .h .given .1)) ∙ read .0)), read .1)
+    let read = c .before .before .before .before .before .before .before .read-block .ensures in
+    (rw (c .number .ensures) (ap blockAnswer (sym (ap headerOutcome (c .before .before .before .h .given .1)) ∙ read .0)), read .1)
 
 returns-2 : tie.Need-returns-2
 returns-2 c =

@@ -9,8 +9,11 @@ use Rattle.check_triples.proofs.codes.Case.is_met.Tie as tie
 
 returns : tie.Need-returns
 returns c =
-    let outcome = ap codesOutcome (sym (c .before .before .before .before .before .found .given .1)) ∙ c .before .before .before .before .before .before .before .codes-of-words .ensures in
-    rw (c .before .before .before .codes .ensures) (ap (λ (o : Outcome Clipped). codesAgree o (c .before .before .before .before .before .before .before .before .args .self)) outcome)
+    let same = c .before .before .before .before .before in
+    let found = same .before .before in
+    let decoded = found .before .before in
+    let outcome = ap codesOutcome (sym (found .found .given .1)) ∙ decoded .codes-of-words .ensures in
+    rw (same .codes .ensures) (ap (λ (o : Outcome Clipped). codesAgree o (decoded .before .args .self)) outcome)
 
 returns-2 : tie.Need-returns-2
 returns-2 c =

@@ -1,6 +1,6 @@
 -- Clips low and high of a block (request 2026-07): both sums, and that together they are the former total.
 -- Assumes nothing.
-use mathlib.Core.Path.{_≡_, refl, ap, _∙_}
+use mathlib.Core.Path.{_≡_, refl, ap}
 use mathlib.Core.List.{List}
 use mathlib.Core.Bool.{Bool, true, false}
 use Prim.Native.Nat.{ℕ, zero, suc, _+_, _*_, _≤_}
@@ -10,7 +10,6 @@ use Rattle.exact.specs.Outcome.{Outcome, accepted, refused}
 use Rattle.systems.specs.declared.System.{System}
 use Rattle.matrix.specs.declared.Clips.{Clips}
 use Rattle.matrix.specs.declared.Words.{Words}
-use Rattle.matrix.specs.Triples.{codesAt}
 use Rattle.matrix.proofs.Claims.{Alike, formerTotal}
 use Rattle.matrix.proofs.LowAndHigh.{triple-clips, triple-sum}
 use Rattle.block.specs.declared.Judged.{Judged}

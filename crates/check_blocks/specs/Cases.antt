@@ -1,7 +1,6 @@
 -- The cases of the file that reference/make_blocks.py makes, and whether reading agrees with them. Definitions only.
-use Prim.Native.Nat.{ℕ, zero, suc, _+_, _*_, _-_, _/_, _%_, _≤_, _<_}
-use mathlib.Core.Path.{_≡_}
-use mathlib.Core.Bool.{Bool, true, false, _&&_, cond}
+use Prim.Native.Nat.{ℕ, zero, suc, _+_, _*_, _-_, _/_, _%_}
+use mathlib.Core.Bool.{Bool, true, _&&_, cond}
 use mathlib.Core.List.{List, [], _∷_, _++_}
 use lib.Dec.{eqb, ltb, leb}
 use lib.ListN.{length, getD, take, drop}
@@ -10,7 +9,7 @@ use Rattle.systems.specs.Systems.{number}
 use Rattle.block.specs.declared.Header.{Header}
 use Rattle.block.specs.Read.{headerOf, sliceAfter}
 use Rattle.check_records.specs.declared.tally.Tally.{Tally}
-use Rattle.check_records.specs.Records.{u16At, u32At, none, tallied, Compared}
+use Rattle.check_records.specs.Records.{u16At, none, tallied, Compared}
 use Rattle.check_blocks.specs.declared.cases.Case.{Case}
 
 -- what stands at a place of the lent slice before the call, and the slice of n such places

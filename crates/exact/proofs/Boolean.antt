@@ -18,6 +18,10 @@ pub is-true : (b : Bool) → T b → b ≡ true
 is-true true t = refl
 is-true false t = absurd t
 
+pub is-false : (b : Bool) → (b ≡ true → ⊥) → b ≡ false
+is-false true h = absurd (h refl)
+is-false false h = refl
+
 pub all-three : (a b c : Bool) → T (a && (b && c)) → T a × T b × T c
 all-three true true c t = (tt, tt, t)
 all-three true false c t = absurd t

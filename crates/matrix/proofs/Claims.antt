@@ -20,7 +20,7 @@ use Rattle.matrix.specs.declared.Words.{Words}
 use Rattle.matrix.specs.declared.WordRanges.{WordRanges}
 use Rattle.matrix.specs.declared.Clips.{Clips}
 use Rattle.matrix.specs.declared.Clipped.{Clipped}
-use Rattle.matrix.specs.Triples.{limitedBy, encodedAt, wordsOfCodes, redOf, greenOf, blueOf, wordsWithin, codesAt, codesOfWords}
+use Rattle.matrix.specs.Triples.{limitedBy, encodedAt, wordsOfCodes, redOf, greenOf, blueOf, wordsWithin, codesAt}
 use Rattle.matrix.specs.Inner.{nominalAt, videoAt}
 
 -- ---- what the rules leave

@@ -59,10 +59,6 @@ pub not-both : (n : Range) (v : ℤ) → n .low ≤ n .high → ltZ v (pos (n .l
 not-both n (pos a) o l h = omega (arith, ltb-true a (n .low) l, ltb-true (n .high) a h)
 not-both n (negsuc a) o l h = subst T (sym h) tt
 
-pub at-most-one : (t : Bool) → boolByte t ≤ 1
-at-most-one true = omega arith
-at-most-one false = omega arith
-
 pub clipped-within : (n : Range) (v : ℤ) → n .low ≤ n .high → (n .low ≤ clipped n v) × (clipped n v ≤ n .high)
 clipped-within n v h = by-tests (ltZ v (pos (n .low))) (ltZ (pos (n .high)) v) refl refl
   where

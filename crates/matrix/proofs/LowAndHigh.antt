@@ -1,6 +1,6 @@
 -- Clips low and high (request 2026-07): each component counts once at most, and the sum is the former total.
 -- Assumes nothing.
-use mathlib.Core.Path.{_≡_, refl, sym, ap, _∙_}
+use mathlib.Core.Path.{_≡_, refl, sym}
 use mathlib.Core.Bool.{Bool, true, false}
 use Prim.Native.Nat.{ℕ, _+_, _≤_}
 use native.Mathlib.Omega.{arith}
@@ -8,6 +8,7 @@ use lib.IntN.{ℤ, pos}
 use lib.Signed.{ltZ}
 use Rattle.exact.specs.Signed.{rounded}
 use Rattle.exact.specs.Outcome.{Outcome, accepted, refused}
+use Rattle.exact.proofs.Boolean.{is-false}
 use Rattle.systems.specs.declared.Range.{Range}
 use Rattle.systems.specs.declared.System.{System}
 use Rattle.systems.specs.Systems.{matrix, scale, videoData, named}
@@ -17,22 +18,14 @@ use Rattle.matrix.specs.Triples.{redOf, greenOf, blueOf, beyond, wordsWi
 use Rattle.matrix.proofs.Claims.{Alike, formerlyBeyond, formerTotal, formerlyDecoded, ComponentClips, TripleClips, Split}
 use Rattle.matrix.proofs.Clipping.{not-both, beyond-by}
 
--- a component of a range that is in order
+-- a component, by a range that is in order
 module _ (n : Range) (v : ℤ) (o : n .low ≤ n .high) where
   component-clips : ComponentClips n v (beyond n v)
   component-clips = record {
-    below = λ l. sym (beyond-by n v true false l (high-when-low (ltZ (pos (n .high)) v) refl l));
-    above = λ h. sym (beyond-by n v false true (low-when-high (ltZ v (pos (n .low))) refl h) h);
+    below = λ l. sym (beyond-by n v true false l (is-false _ (not-both n v o l)));
+    above = λ h. sym (beyond-by n v false true (is-false _ (λ l. not-both n v o l h)) h);
     other = λ l h. sym (beyond-by n v false false l h);
   }
-    where
-      high-when-low : (t : Bool) → ltZ (pos (n .high)) v ≡ t → ltZ v (pos (n .low)) ≡ true → ltZ (pos (n .high)) v ≡ false
-      high-when-low true h l = absurd (not-both n v o l h)
-      high-when-low false h l = h
-
-      low-when-high : (t : Bool) → ltZ v (pos (n .low)) ≡ t → ltZ (pos (n .high)) v ≡ true → ltZ v (pos (n .low)) ≡ false
-      low-when-high true l h = absurd (not-both n v o l h)
-      low-when-high false l h = l
 
   component-sum : (beyond n v .low + beyond n v .high ≡ formerlyBeyond n v) × (formerlyBeyond n v ≤ 1)
   component-sum = by-tests (ltZ v (pos (n .low))) (ltZ (pos (n .high)) v) refl refl

@@ -6,7 +6,8 @@ use mir.Syntax.{w64}
 use mir.Val.{toZ, ofZ}
 use mir.ValLaws.{toZ-ofZ, toZ-pos}
 use borrow.Author.Needs.{needs}
-use Rattle.matrix.proofs.Clipping.{beyond-by, at-most-one}
+use Rattle.exact.proofs.Boolean.{bit-small}
+use Rattle.matrix.proofs.Clipping.{beyond-by}
 use Rattle.matrix.proofs.beyond.Statement.{statement}
 use Rattle.matrix.proofs.beyond.Tie as tie
 
@@ -27,7 +28,7 @@ returns : tie.Need-returns
 returns c =
     let low = ltZ (s c .args .v) (pos (s c .args .n .low)) in
     let high = ltZ (pos (s c .args .n .high)) (s c .args .v) in
-    rw (read c, low-read c, high-read c) (beyond-by (s c .args .n) (s c .args .v) low high refl refl, at-most-one low, at-most-one high)
+    rw (read c, low-read c, high-read c) (beyond-by (s c .args .n) (s c .args .v) low high refl refl, bit-small low, bit-small high)
 
 pub beyond-spec : {M : Type 1} → statement M
 beyond-spec = tie.close (tie.spec (λ c. search needs) (λ c. search needs) (λ c. search needs) (λ c. search needs) returns)

@@ -1,13 +1,18 @@
 -- Every outcome of reading a block has an answer that says it, so the claims about readings speak of every block.
 -- Assumes nothing.
 use Prim.Native.Nat.{ℕ, _+_, _*_}
+use mathlib.Core.Path.{_≡_, refl}
 use mathlib.Core.Bool.{Bool}
 use mathlib.Core.List.{List}
 use lib.Dec.{leb, eqb}
 use lib.ListN.{length, getD}
+use Rattle.exact.specs.Outcome.{Outcome}
 use Rattle.systems.specs.declared.refusal.Refusal.the-variants as refusal
-use Rattle.systems.proofs.Answerable.{Answerable, values, tested, followed, named-answerable}
-use Rattle.block.specs.Read.{fieldAt, sectionAt, widthOk, sections, walk, wordsOk, judge, headerOf}
+use Rattle.systems.proofs.Answerable.{Answerable, values, refusing, tested, followed, named-answerable}
+use Rattle.block.specs.declared.BlockRead.{BlockRead}
+use Rattle.block.specs.declared.BlockRead.the-variants as read
+use Rattle.block.specs.declared.Header.{Header}
+use Rattle.block.specs.Read.{fieldAt, sectionAt, widthOk, sections, walk, wordsOk, judge, headerOf, headerOutcome}
 
 section-answerable : (bs : List ℕ) (i : ℕ) (good : ℕ → Bool) → Answerable (sectionAt bs i good)
 section-answerable bs i good =
@@ -38,3 +43,15 @@ judge-answerable bs = followed (walk-answerable bs) (λ b. tested (wordsOk b bs)
 pub reading-answerable : (bs : List ℕ) (room : ℕ) → Answerable (headerOf bs room)
 unfolding headerOf
 reading-answerable bs room = followed (judge-answerable bs) (λ b. tested (leb (3 * b .samples) room) refusal.Output (values _))
+
+-- an answer that says o
+pub record ReadFor (o : Outcome Header) : Type 0 where
+  pub read : BlockRead
+  pub outcome : headerOutcome read ≡ o
+
+pub read-for : (bs : List ℕ) (room : ℕ) → ReadFor (headerOf bs room)
+read-for bs room = found (reading-answerable bs room)
+  where
+    found : {o : Outcome Header} → Answerable o → ReadFor o
+    found (values h) = record { read = read.Row h; outcome = refl }
+    found (refusing r) = record { read = read.Refused r; outcome = refl }

@@ -1,18 +1,25 @@
 -- The card of the C interface. What a call does is what the exported function's own contract says (its generated `Post`), so nothing is restated here.
 -- Definitions only.
 use Prim.Native.Nat.{ℕ}
+use mathlib.Core.Path.{_≡_}
 use mathlib.Core.Bool.{Bool, true, false}
 use mathlib.Core.List.{List}
 use lib.Dec.{eqb}
+use lib.ListN.{replicate}
 use contract.Lifetimes.{Lfts}
 use denote.Ref.{RefT, now}
 use Rattle.exact.specs.Outcome.{Outcome}
 use Rattle.exact.specs.Outcome as outcome
+use Rattle.meter.specs.declared.Figures.{Figures}
+use Rattle.meter.specs.declared.Meter.{Meter}
+use Rattle.meter.proofs.Calls as meter
+use Rattle.meter.proofs.Calls.{Row}
 use Rattle.picture.specs.Book.{Answer, accepted, refused}
 use Rattle.picture.proofs.Calls.{Label, Card}
 use Rattle.segmented.specs.declared.Order.{Order}
 use Rattle.segmented.specs.declared.Order.the-variants.{Segmented, Progressive}
 use Rattle.ferghulta.specs.declared.calls.BlockAnswer.{BlockAnswer}
+use Rattle.ferghulta.specs.declared.meter_calls.MeteredAnswer.{MeteredAnswer}
 use Rattle.ferghulta.specs.declared.stored_picture.StoredPicture.{StoredPicture}
 use Rattle.ferghulta.specs.declared.picture_calls.PictureAnswer.{PictureAnswer}
 use Rattle.ferghulta.specs.declared.picture_calls.TotalAnswer.{TotalAnswer}
@@ -22,6 +29,8 @@ use Rattle.ferghulta.proofs.picture_calls.ferghulta_row.Reads as row-ca
 use Rattle.ferghulta.proofs.picture_calls.ferghulta_close.Reads as close-call
 use Rattle.ferghulta.proofs.picture_calls.ferghulta_total_bytes.Reads as total-call
 use Rattle.ferghulta.proofs.calls.ferghulta_read_block.Reads as read-call
+use Rattle.ferghulta.proofs.meter_calls.ferghulta_read_metered.Reads as read-metered-call
+use Rattle.ferghulta.proofs.meter_calls.ferghulta_meter_figures.Reads as figures-call
 use Rattle.ferghulta.proofs.segmented_calls.ferghulta_to_segmented.Reads as to-segmented
 use Rattle.ferghulta.proofs.segmented_calls.ferghulta_to_progressive.Reads as to-progressive
 
@@ -79,6 +88,34 @@ card = record {
   Close = Closes;
   Read = Reads;
   Total = Totals;
+}
+
+-- ---- metered reads: a meter crosses as it is, and one that is all zero is empty
+
+abbrev pub rowIf : Bool → BlockAnswer → Outcome Row
+rowIf true a = outcome.accepted (record { system = a .system; row = a .row; samples = a .samples; low = a .clips .low; high = a .clips .high })
+rowIf false a = outcome.refused (a .refusal)
+
+abbrev pub rowBy : BlockAnswer → Outcome Row
+rowBy a = rowIf (eqb (a .refusal) 0) a
+
+pub data MeteredReads (m : Meter) : List ℕ → List ℕ → Outcome Row → List ℕ → Meter → Type 0 where
+  by-read-metered : (κs : Lfts 2) (bytes slice bytes′ slice′ : RefT (List ℕ)) (a : MeteredAnswer) (m′ : Meter) → read-metered-call.Post κs (m, (bytes, (slice, tt))) a (m′, (bytes′, (slice′, tt)))
+      → MeteredReads m (now bytes) (now slice) (rowBy (a .block)) (now slice′) (a .meter)
+
+pub data BlockReads : List ℕ → List ℕ → Outcome Row → List ℕ → Type 0 where
+  by-read : (κs : Lfts 2) (bytes slice bytes′ slice′ : RefT (List ℕ)) (a : BlockAnswer) → read-call.Post κs (bytes, (slice, tt)) a (bytes′, (slice′, tt))
+      → BlockReads (now bytes) (now slice) (rowBy a) (now slice′)
+
+pub data Shows (m : Meter) (f : Figures) : Type 0 where
+  by-figures : (m′ : Meter) → figures-call.Post tt (m, tt) f (m′, tt) → Shows m f
+
+abbrev pub meterCard : meter.Card
+meterCard = record {
+  Empty = λ m. m ≡ record { lows = replicate 64 0; low = 0; highs = replicate 64 0; high = 0; place = 0; rows = 0 };
+  Read = MeteredReads;
+  Block = BlockReads;
+  Shows = Shows;
 }
 
 -- ---- moving rows: the refusal alone is answered

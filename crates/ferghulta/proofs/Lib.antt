@@ -3,4 +3,5 @@ pub mod Stored
 pub mod Exported
 pub mod Histories
 pub mod Segmented
+pub mod Metered
 pub mod Theorem

@@ -1,4 +1,4 @@
--- The exported calls' own statements and the claims on lists of them and on moving rows, in one.
+-- The exported calls' own statements and the claims on lists of them, on metered reads and on moving rows, in one.
 -- Assumes nothing.
 use Prim.Native.Nat.{ℕ}
 use mathlib.Core.List.{List}
@@ -6,6 +6,7 @@ use Rattle.picture.specs.Book.{Call, Answer, fresh}
 use Rattle.picture.proofs.Calls.{Lent, Ran, History}
 use Rattle.picture.proofs.Claims.{Demanded, Counted}
 use Rattle.picture.proofs.Histories.{Lends, Happens, Answering, every-list-happens}
+use Rattle.meter.proofs.Claims as meter
 use Rattle.segmented.proofs.Claims.{Claimed}
 use Rattle.ferghulta.specs.declared.stored_picture.StoredPicture.{StoredPicture}
 use Rattle.ferghulta.proofs.picture_calls.ferghulta_new.Statement as new-statement
@@ -20,13 +21,18 @@ use Rattle.ferghulta.proofs.picture_calls.ferghulta_total_bytes.Stateme
 use Rattle.ferghulta.proofs.picture_calls.ferghulta_total_bytes.Met as total-met
 use Rattle.ferghulta.proofs.calls.ferghulta_read_block.Statement as read-statement
 use Rattle.ferghulta.proofs.calls.ferghulta_read_block.Met as read-met
+use Rattle.ferghulta.proofs.meter_calls.ferghulta_read_metered.Statement as read-metered-statement
+use Rattle.ferghulta.proofs.meter_calls.ferghulta_read_metered.Met as read-metered-met
+use Rattle.ferghulta.proofs.meter_calls.ferghulta_meter_figures.Statement as figures-statement
+use Rattle.ferghulta.proofs.meter_calls.ferghulta_meter_figures.Met as figures-met
 use Rattle.ferghulta.proofs.segmented_calls.ferghulta_to_segmented.Statement as to-segmented-statement
 use Rattle.ferghulta.proofs.segmented_calls.ferghulta_to_segmented.Met as to-segmented-met
 use Rattle.ferghulta.proofs.segmented_calls.ferghulta_to_progressive.Statement as to-progressive-statement
 use Rattle.ferghulta.proofs.segmented_calls.ferghulta_to_progressive.Met as to-progressive-met
-use Rattle.ferghulta.proofs.Card.{card, Moves}
+use Rattle.ferghulta.proofs.Card.{card, meterCard, Moves}
 use Rattle.ferghulta.proofs.Exported.{stateAt, demand-3, from-any, bytes-counted, bytes-from-any}
 use Rattle.ferghulta.proofs.Histories.{answering}
+use Rattle.ferghulta.proofs.Metered.{metered}
 use Rattle.ferghulta.proofs.Segmented.{moving}
 
 -- each `Post` of the card is that of a contract which the routine meets
@@ -46,6 +52,10 @@ pub record Theorem : Type 3 where
   -- they speak of every list of calls, whatever the lent buffers hold, and of every reading and every size
   pub happens : {cs : List Call} {bs : List (List ℕ)} → Lends cs bs → Happens card cs bs
   pub calls : Answering card
+  -- request 2026-08, from a meter that is all zero and from any
+  pub reads-metered : {M : Type 1} → read-metered-statement.statement M
+  pub figures : {M : Type 1} → figures-statement.statement M
+  pub meters : meter.Claimed meterCard
   -- request 2026-01
   pub segments : {M : Type 1} → to-segmented-statement.statement M
   pub restores : {M : Type 1} → to-progressive-statement.statement M
@@ -65,6 +75,9 @@ theorem = record {
   any-bytes = bytes-from-any;
   happens = every-list-happens answering;
   calls = answering;
+  reads-metered = read-metered-met.met;
+  figures = figures-met.met;
+  meters = metered;
   segments = to-segmented-met.met;
   restores = to-progressive-met.met;
   moves = moving;

@@ -14,6 +14,8 @@ use Rattle.matrix.specs.declared.Clipped.{Clipped}
 use Rattle.matrix.specs.Triples.{noClips}
 use Rattle.levels.specs.declared.Level.{Level}
 use Rattle.block.specs.declared.Header.{Header}
+use Rattle.meter.specs.declared.Meter.{Meter}
+use Rattle.meter.specs.Meter.{metering}
 use Rattle.ferghulta.specs.declared.calls.CodeAnswer.{CodeAnswer}
 use Rattle.ferghulta.specs.declared.calls.SpanAnswer.{SpanAnswer}
 use Rattle.ferghulta.specs.declared.calls.CodesAnswer.{CodesAnswer}
@@ -22,6 +24,7 @@ use Rattle.ferghulta.specs.declared.calls.WordsAnswer.{WordsAnswer}
 use Rattle.ferghulta.specs.declared.calls.DecodedAnswer.{DecodedAnswer}
 use Rattle.ferghulta.specs.declared.calls.LevelAnswer.{LevelAnswer}
 use Rattle.ferghulta.specs.declared.calls.BlockAnswer.{BlockAnswer}
+use Rattle.ferghulta.specs.declared.meter_calls.MeteredAnswer.{MeteredAnswer}
 
 abbrev pub codeAnswer : Outcome ℕ → CodeAnswer
 codeAnswer (accepted d) = record { refusal = 0; code = d }
@@ -60,6 +63,10 @@ levelAnswer (refused n) = record { refusal = n; level = record { millivolts = po
 abbrev pub blockAnswer : Outcome Header → BlockAnswer
 blockAnswer (accepted h) = record { refusal = 0; system = number (h .system); clips = h .clips; row = h .row; samples = h .samples }
 blockAnswer (refused n) = record { refusal = n; system = 0; clips = noClips; row = 0; samples = 0 }
+
+-- request 2026-08: what reading gives, and the meter that the next call is to be given
+abbrev pub meteredAnswer : Meter → Outcome Header → MeteredAnswer
+meteredAnswer m o = record { block = blockAnswer o; meter = metering m o }
 
 -- an answer that has no other values is its refusal
 abbrev pub refusalAnswer : Outcome (Unit {0}) → ℕ

@@ -1,4 +1,4 @@
--- What a call on a picture, or a reading, comes to can always be answered.
+-- What a call on a picture comes to can always be answered.
 -- Assumes nothing.
 use Prim.Native.Nat.{ℕ, _*_}
 use mathlib.Core.Path.{_≡_, refl}
@@ -8,10 +8,7 @@ use lib.ListN.{length}
 use Rattle.exact.specs.Outcome.{Outcome}
 use Rattle.systems.specs.declared.refusal.Refusal.the-variants as refusal
 use Rattle.systems.proofs.Answerable.{Answerable, values, refusing, tested, followed, named-answerable}
-use Rattle.block.specs.declared.Header.{Header}
-use Rattle.block.specs.declared.BlockRead.{BlockRead}
-use Rattle.block.specs.declared.BlockRead.the-variants as read
-use Rattle.block.specs.Read.{widthOk, headerOutcome}
+use Rattle.block.specs.Read.{widthOk}
 use Rattle.block.specs.Block.{size}
 use Rattle.picture.specs.declared.Phase.{Phase}
 use Rattle.picture.specs.declared.Phase.the-variants.{Fresh, Open, Closed}
@@ -38,14 +35,6 @@ pub record TotalFor (o : Outcome ℕ) : Type 0 where
 pub total-for : {o : Outcome ℕ} → Answerable o → TotalFor o
 total-for (values b) = record { total = total.Bytes b; outcome = refl }
 total-for (refusing r) = record { total = total.Refused r; outcome = refl }
-
-pub record ReadFor (o : Outcome Header) : Type 0 where
-  pub read : BlockRead
-  pub outcome : headerOutcome read ≡ o
-
-pub read-for : {o : Outcome Header} → Answerable o → ReadFor o
-read-for (values h) = record { read = read.Row h; outcome = refl }
-read-for (refusing r) = record { read = read.Refused r; outcome = refl }
 
 sized-answerable : (w h : ℕ) → Answerable (sized w h)
 unfolding sized

@@ -7,13 +7,13 @@ use lib.ListN.{length}
 use Rattle.exact.specs.Outcome.{Outcome}
 use Rattle.exact.proofs.Lending.{lend, lifetimes}
 use Rattle.block.specs.Read.{sliceAfter}
-use Rattle.block.proofs.Answerable.{reading-answerable}
+use Rattle.block.proofs.Answerable.{read-for}
 use Rattle.picture.specs.declared.Phase.the-variants.{Fresh}
 use Rattle.picture.specs.Picture.{at, withBlock, bufferAfter}
 use Rattle.picture.specs.Book.{Call, opens, rows, closes, Answer}
 use Rattle.picture.proofs.Calls.{Label, Card, Lent, Lights, Ran, ends, after-open, after-row, after-close, History}
 use Rattle.picture.proofs.Card.{by-open, by-row, by-close, by-read-block, by-total-bytes, card}
-use Rattle.picture.proofs.Answerable.{change-for, read-for, total-for, open-answerable, row-answerable, close-answerable, total-answerable}
+use Rattle.picture.proofs.Answerable.{change-for, total-for, open-answerable, row-answerable, close-answerable, total-answerable}
 
 -- every call on a card comes to something, whatever it is given
 pub record Answering (card : Card) : Type 0 where
@@ -87,7 +87,7 @@ answering = record {
       (_, _, _, by-row lifetimes (lend lights) (lend out) (lend lights) (lend (bufferAfter p lights out)) (a .change) p (a .outcome, refl));
   closes = λ p. let a = change-for (close-answerable (p .phase)) (p .bytes) in (_, _, by-close (a .change) p (a .outcome));
   reads = λ bytes slice.
-      let a = read-for (reading-answerable bytes (length slice)) in
+      let a = read-for bytes (length slice) in
       (_, _, by-read-block lifetimes (lend bytes) (lend slice) (lend bytes) (lend (sliceAfter bytes slice)) (a .read) (a .outcome, refl));
   totals = λ w h. let a = total-for (total-answerable w h) in (_, by-total-bytes (a .total) w h (a .outcome));
 }

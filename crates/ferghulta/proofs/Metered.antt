@@ -20,7 +20,7 @@ use Rattle.meter.specs.Meter.{total, figures}
 use Rattle.meter.proofs.Calls.{Row}
 use Rattle.meter.proofs.Card.{told}
 use Rattle.meter.proofs.Claims.{Claimed}
-use Rattle.meter.proofs.Lists.{Follows, Faithful, claimed}
+use Rattle.meter.proofs.Lists.{Follows, claimed}
 use Rattle.ferghulta.specs.declared.calls.BlockAnswer.{BlockAnswer}
 use Rattle.ferghulta.specs.declared.meter_calls.MeteredAnswer.{MeteredAnswer}
 use Rattle.ferghulta.specs.Answers.{blockAnswer, meteredAnswer}

@@ -1,12 +1,11 @@
 -- The claim on every list of reads, of any card that does what the definitions say, and so of this crate's.
 -- Assumes nothing.
-use Prim.Native.Nat.{ℕ, _+_, _%_, min}
+use Prim.Native.Nat.{ℕ}
 use mathlib.Core.Path.{_≡_, refl, sym, ap, _∙_}
 use mathlib.Core.Bool.{Bool, true, false}
 use mathlib.Core.List.{List, [], _∷_, _++_, append-nil, append-assoc}
 use native.Mathlib.Omega.{arith}
-use denote.Ref.{now}
-use lib.ListN.{length, take, set, length-set}
+use lib.ListN.{length, length-set}
 use Rattle.exact.specs.Outcome.{Outcome, accepted, refused}
 use Rattle.exact.proofs.Lending.{lend, lifetimes}
 use Rattle.matrix.specs.declared.Clips.{Clips}
@@ -18,9 +17,9 @@ use Rattle.meter.specs.declared.Figures.{Figures}
 use Rattle.meter.specs.Meter.{total, empty, whole, kept, entered, metering, shown, figures}
 use Rattle.meter.proofs.Calls.{Row, Card, Read, Ran, ends, after}
 use Rattle.meter.proofs.Card.{told, Reads, by-read, Blocks, by-read-block, Shows, by-figures, card}
-use Rattle.meter.proofs.Claims.{entry, entries, lows, highs, latest, over, Arrays, held, heldLows, heldHighs, Given, given, Happens, Claimed}
+use Rattle.meter.proofs.Claims.{entry, entries, lows, highs, latest, over, Arrays, held, heldLows, heldHighs, Given, given, Claimed}
 use Rattle.meter.proofs.Turns.{Whole, whole-parts, parts-whole, kept-whole, InTurn, in-turn, turn-test, next-turn, at-most-64}
-use Rattle.meter.proofs.Windows.{latest-few, latest-next, held-length, held-total, held-next}
+use Rattle.meter.proofs.Windows.{latest-few, held-length, held-total, held-next}
 
 -- ---- a meter, and the history of which it holds the latest
 
@@ -37,14 +36,11 @@ module _ {m : Meter} {ls hs : List ℕ} (g : Holds m ls hs) where
   enters : (k : Clips) → Holds (entered m k) (ls ++ k .low ∷ []) (hs ++ k .high ∷ [])
   enters k =
       let t = turn-of (g .parts) in
-      let next : (l h : List ℕ) → length l ≡ 64 → (x : ℕ) → held l (m .place) (m .rows) ≡ latest h
-      → held (set l (m .place) x) ((m .place + 1) % 64) (min 64 (m .rows + 1)) ≡ latest (h ++ x ∷ [])
-      = λ l h long x e. held-next l long t x ∙ ap (λ (s : List ℕ). latest (s ++ x ∷ [])) e ∙ latest-next h x in
       record {
         parts = record { turn = turn-test (next-turn t); low = refl; high = refl };
         arrays = record { lows = length-set (m .lows) _ _ ∙ g .arrays .lows; highs = length-set (m .highs) _ _ ∙ g .arrays .highs };
-        lows = next (m .lows) ls (g .arrays .lows) (k .low) (g .lows);
-        highs = next (m .highs) hs (g .arrays .highs) (k .high) (g .highs);
+        lows = held-next (m .lows) (g .arrays .lows) t (k .low) ls (g .lows);
+        highs = held-next (m .highs) (g .arrays .highs) t (k .high) hs (g .highs);
       }
 
   shows-sums : shown m ≡ over ls hs

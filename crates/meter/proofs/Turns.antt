@@ -1,6 +1,6 @@
 -- Rows that were entered in turn, from place 0 on: what one more of them makes of the sum.
 -- Assumes nothing.
-use mathlib.Core.Path.{_≡_, refl, ap, _∙_}
+use mathlib.Core.Path.{_≡_, refl, _∙_}
 use mathlib.Core.Bool.{Bool, true, false, _&&_, _||_, false≢true}
 use mathlib.Core.Logic.{_⊎_, inl, inr, ⊎-elim}
 use mathlib.Core.List.{List, [], _∷_}
@@ -14,7 +14,7 @@ use lib.Seq.{take-all, take-suc-set}
 use borrow.Author.Tests.{ltb-true, eqb-true, lt-ltb, eq-eqb, ne-eqb}
 use Rattle.exact.proofs.Boolean.{each-of-three}
 use Rattle.meter.specs.declared.Meter.{Meter}
-use Rattle.meter.specs.Meter.{total, holding, inTurn, whole, kept}
+use Rattle.meter.specs.Meter.{total, inTurn, whole, kept}
 use Rattle.meter.proofs.Sums.{total-append, total-of-one, total-exchanged}
 
 pub record InTurn (place rows : ℕ) : Type 0 where

@@ -1,13 +1,13 @@
 -- The counts that an array holds, the oldest first, and the latest of a history: one row more does the same to both.
 -- Assumes nothing.
-use mathlib.Core.Path.{_≡_, refl, sym, ap, _∙_}
-use mathlib.Core.Logic.{⊎-elim, inl, inr}
+use mathlib.Core.Path.{_≡_, sym, ap, _∙_}
+use mathlib.Core.Logic.{⊎-elim}
 use mathlib.Core.List.{List, [], _∷_, _++_, append-nil, append-assoc}
-use Prim.Native.Nat.{ℕ, zero, suc, _+_, _-_, _%_, _≤_, _<_, min}
+use Prim.Native.Nat.{ℕ, suc, _+_, _-_, _%_, _≤_, min}
 use native.Mathlib.Nat.{eq-or-lt-of-le}
 use native.Mathlib.Numerals.{add-one}
 use native.Mathlib.Omega.{arith}
-use lib.ListN.{length, getD, take, drop, set, length-append, length-take, length-drop, length-set, take-append-drop}
+use lib.ListN.{length, getD, take, drop, set, length-append, length-drop, length-set, take-append-drop}
 use lib.Seq.{take-all, drop-length, drop-cons, drop-drop, drop-append-le, drop-set-lt, take-suc-set, length-take-le}
 use Rattle.meter.specs.Meter.{total}
 use Rattle.meter.proofs.Claims.{latest, held}
@@ -18,7 +18,7 @@ pub latest-few : (h : List ℕ) → length h ≤ 64 → latest h ≡ h
 latest-few h few = let e : length h - 64 ≡ 0 = omega arith in rw e
 
 -- the latest of a history are all that the next ones need
-pub latest-next : (h : List ℕ) (x : ℕ) → latest (latest h ++ x ∷ []) ≡ latest (h ++ x ∷ [])
+latest-next : (h : List ℕ) (x : ℕ) → latest (latest h ++ x ∷ []) ≡ latest (h ++ x ∷ [])
 latest-next h x =
     let d = length h - 64 in
     let m = length (drop d (h ++ x ∷ [])) - 64 in
@@ -49,7 +49,7 @@ module _ (l : List ℕ) (long : length l ≡ 64) {place rows : ℕ} (t : InTurn 
   same-place : place % 64 ≡ place
   same-place = omega (arith, t .below)
 
-  -- the rows that are held are the first ones, from another place on
+  -- as rows and place go together: fewer than 64 rows, or 64
   filling : rows ≡ place → held l place rows ≡ take place l
   filling e = rw e (rw same-place at (held-filling l long place (omega (arith, t .below))))
 
@@ -103,6 +103,6 @@ module _ (l : List ℕ) (long : length l ≡ 64) {place rows : ℕ} (t : InTurn 
         ∙ ap (λ (s : List ℕ). latest ((s ++ take place l) ++ x ∷ [])) (sym (drop-cons l place 0 (omega (arith, t .below))))
         ∙ ap (λ (s : List ℕ). latest (s ++ x ∷ [])) (sym (full e))
 
-    -- one row more
-    pub held-next : held entered-at ((place + 1) % 64) (min 64 (rows + 1)) ≡ latest (held l place rows ++ x ∷ [])
-    held-next = ⊎-elim next-filling next-full (t .held)
+    -- what is held stays the latest of a history
+    pub held-next : (h : List ℕ) → held l place rows ≡ latest h → held entered-at ((place + 1) % 64) (min 64 (rows + 1)) ≡ latest (h ++ x ∷ [])
+    held-next h e = ⊎-elim next-filling next-full (t .held) ∙ ap (λ (s : List ℕ). latest (s ++ x ∷ [])) e ∙ latest-next h x

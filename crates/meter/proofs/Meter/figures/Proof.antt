@@ -1,4 +1,4 @@
-use mathlib.Core.Path.{_≡_, refl, sym, ap, _∙_}
+use mathlib.Core.Path.{ap}
 use Rattle.meter.specs.Meter.{shown}
 use borrow.Author.Needs.{needs}
 use Rattle.meter.proofs.Meter.figures.Statement.{statement}

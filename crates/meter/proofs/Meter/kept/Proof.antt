@@ -1,4 +1,4 @@
-use mathlib.Core.Path.{_≡_, refl, sym, ap, _∙_}
+use mathlib.Core.Path.{sym, _∙_}
 use Rattle.meter.specs.Meter.{total}
 use borrow.Author.Needs.{needs}
 use Rattle.meter.proofs.Meter.kept.Statement.{statement}

@@ -1,6 +1,5 @@
 use mathlib.Core.Path.{sym, ap, _∙_}
 use Rattle.block.specs.Read.{headerOutcome}
-use Rattle.matrix.specs.declared.Clips.{Clips}
 use Rattle.meter.specs.declared.Meter.{Meter}
 use Rattle.meter.specs.Meter.{entered, metering}
 use Rattle.meter.proofs.Turns.{kept-whole}

@@ -10,6 +10,7 @@
 #include "calls.h"
 #include "contestants.h"
 #include "exact.h"
+#include "meters.h"
 #include "segments.h"
 
 // What is done just before a contestant is timed: nothing, so that it meets the rows as its turn finds them; a run of its own, so
@@ -216,6 +217,21 @@ static void time_single_calls(int rounds)
     }
 }
 
+static void time_meters(int rounds)
+{
+    static const struct set OF[] = {{"in turn", 1, 4096, NOTHING}, {"in turn", 1920, 256, NOTHING}, {"in turn", 7680, 64, NOTHING}};
+    printf("\nns a block, with a meter and without\n%-8s%-8s%12s%14s%8s\n", "width", "system", "read_block", "read_metered", "ratio");
+    for (size_t i = 0; i < sizeof OF / sizeof *OF; i++)
+        for (int s = 0; s < SYSTEM_COUNT; s++) {
+            struct reading r[READINGS];
+            time_readings(&SYSTEMS[s], OF[i].width, OF[i].count, rounds, r);
+            printf("%-8zu%-8u%12.1f%14.1f%8.3f\n", OF[i].width, (unsigned)SYSTEMS[s].number, r[0].nanoseconds, r[1].nanoseconds,
+                   r[1].nanoseconds / r[0].nanoseconds);
+            for (int n = 0; n < READINGS; n++)
+                put_csv("read", &OF[i], SYSTEMS[s].number, "read", r[n].name, r[n].nanoseconds);
+        }
+}
+
 // Rows as long as the blocks of 1920 and of 7680 samples.
 static void time_segments(int rounds)
 {
@@ -290,6 +306,7 @@ int main(int argc, char **argv)
     time_all(rounds);
     compare_all(&COMPARED);
     time_single_calls(rounds);
+    time_meters(rounds);
     time_segments(rounds);
     if (csv && fclose(csv))
         stop("the CSV file cannot be written");

@@ -111,6 +111,30 @@ static void total_bytes(const struct rows *rows)
     sink = sum;
 }
 
+// Full meters: a meter as it is after 65 rows, after 66, and so on.
+static void fill_meters(const struct rows *rows, ferghulta_meter meters[FERGHULTA_METER_ROWS])
+{
+    ferghulta_meter meter = ferghulta_empty_meter();
+    uint16_t codes[PLANES];
+    size_t bytes = FERGHULTA_BLOCK_BYTES(1);
+    for (size_t row = 0; row < 2 * FERGHULTA_METER_ROWS; row++) {
+        if (ferghulta_read_metered_of(&meter, rows->blocks + row * bytes, bytes, codes, PLANES).refusal)
+            stop("a metered block was refused");
+        meters[row % FERGHULTA_METER_ROWS] = meter;
+    }
+}
+
+static void meter_figures(const struct rows *rows)
+{
+    static ferghulta_meter meters[FERGHULTA_METER_ROWS];
+    if (meters[0].rows == 0)
+        fill_meters(rows, meters); // in the first round
+    uint32_t sum = 0;
+    for (size_t i = 0; i < ARGUMENTS; i++)
+        sum += ferghulta_meter_figures(meters[i % FERGHULTA_METER_ROWS]).rows;
+    sink = sum;
+}
+
 static void row_of_one(const struct rows *rows)
 {
     our_rows((struct rows *)rows).run((void *)rows);
@@ -133,6 +157,7 @@ void time_calls(const struct system *system, int rounds, struct call calls[CALLS
         {"words_of_codes", words_of_codes},      {"trimmed_words_of_codes", trimmed_words_of_codes},
         {"codes_of_words", codes_of_words},      {"level_of_code", level_of_code},
         {"level_of_difference", level_of_difference}, {"total_bytes", total_bytes},
+        {"meter_figures", meter_figures},
     };
     struct rows *rows = rows_new(system, 1, ARGUMENTS);
     for (int c = 0; c < CALLS; c++)

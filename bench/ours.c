@@ -36,6 +36,19 @@ static void read_blocks(void *state)
         stop("a block was refused");
 }
 
+static void read_metered_blocks(void *state)
+{
+    struct rows *rows = state;
+    size_t codes = FERGHULTA_ROW_CODES(rows->width), bytes = FERGHULTA_BLOCK_BYTES(rows->width);
+    ferghulta_meter meter = ferghulta_empty_meter();
+    uint32_t refusals = 0;
+    for (size_t row = 0; row < rows->count; row++)
+        refusals |=
+            ferghulta_read_metered_of(&meter, rows->blocks + row * bytes, bytes, rows->read + row * codes, codes).refusal;
+    if (refusals || ferghulta_meter_figures(meter).rows == 0)
+        stop("a metered block was refused");
+}
+
 static void collect_codes(void *state)
 {
     struct rows *rows = state;
@@ -57,4 +70,9 @@ struct contestant our_rows(struct rows *rows)
 struct contestant our_reads(struct rows *rows)
 {
     return (struct contestant){WORDS_TO_CODES, "ours", read_blocks, collect_codes, nothing, rows};
+}
+
+struct contestant our_metered_reads(struct rows *rows)
+{
+    return (struct contestant){WORDS_TO_CODES, "ours with a meter", read_metered_blocks, collect_codes, nothing, rows};
 }

@@ -14,6 +14,7 @@ DEFAULT, WIDEST = "zimg", "zimg 64-byte vectors"
 # What is asked of one run at width 7680, and of moving rows beside memcpy.
 LEAST_FASTER, MOST_SLOWER = 4, 4
 ROW_BYTES, MOST_MOVING = (11529, 46089), 2
+METERED_WIDTHS = (1, 1920, 7680)
 
 
 def table(head, lines):
@@ -88,6 +89,13 @@ def call_table(f):
     return table(["ns a call", *(f"system {s}" for s in SYSTEMS)], lines)
 
 
+def meter_lines(f):
+    for width in METERED_WIDTHS:
+        for system in SYSTEMS:
+            plain, metered = (f.read(width, system, name) for name in ("read_block", "read_metered"))
+            yield [str(width), str(system), f"{plain:.1f}", f"{metered:.1f}", f"{metered / plain:.3f}"]
+
+
 def move_lines(f):
     for row_bytes in ROW_BYTES:
         copied = f.move(row_bytes, "memcpy")
@@ -137,6 +145,8 @@ def report(folder):
         "### Targets, at width 7680", table(["asked", "rows from", "ratios of the systems", "result"], list(target_lines(f))),
         "### Words and codes that are not exact (and the worst distance)", accuracy_table(f),
         "### Single calls", call_table(f),
+        "### Reading with a meter, ns a block",
+        table(["width", "system", "`read_block`", "`read_metered`", "metered / plain"], list(meter_lines(f))),
         f"### Segmented frames, ms for 1080 rows (asked: at most {MOST_MOVING} times the time of memcpy)",
         table(["call", "row bytes", "ours", "memcpy", "ours / memcpy", "result"], list(move_lines(f))),
     ]  # fmt: skip

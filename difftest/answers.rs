@@ -1,5 +1,5 @@
 //! The answers of include/ferghulta.h, and the exact outcomes in that form: a refusal's other numbers are 0.
-use crate::exact::{block_bytes, system, Clips, Level, Opened, Outcome, Picture as State, Row, MOST_ROWS, MOST_SAMPLES};
+use crate::exact::{self, block_bytes, system, Clips, Level, Opened, Outcome, Picture as State, Row, MOST_ROWS, MOST_SAMPLES};
 use std::mem::{offset_of, size_of};
 
 #[repr(C)]
@@ -69,7 +69,7 @@ pub struct LevelAnswer {
 }
 
 #[repr(C)]
-#[derive(Debug, PartialEq)]
+#[derive(Clone, Copy, Debug, PartialEq)]
 pub struct BlockAnswer {
     pub refusal: u32,
     pub system: u32,
@@ -77,6 +77,34 @@ pub struct BlockAnswer {
     pub high: u16,
     pub row: u16,
     pub samples: u16,
+}
+
+pub const METER_ROWS: usize = 64;
+
+#[repr(C)]
+#[derive(Clone, Copy, Debug, PartialEq)]
+pub struct Meter {
+    pub lows: [u16; METER_ROWS],
+    pub highs: [u16; METER_ROWS],
+    pub low: u32,
+    pub high: u32,
+    pub place: u32,
+    pub rows: u32,
+}
+
+#[repr(C)]
+#[derive(Clone, Copy, Debug, PartialEq)]
+pub struct MeteredAnswer {
+    pub block: BlockAnswer,
+    pub meter: Meter,
+}
+
+#[repr(C)]
+#[derive(Clone, Copy, Debug, PartialEq)]
+pub struct FiguresAnswer {
+    pub rows: u32,
+    pub low: u32,
+    pub high: u32,
 }
 
 #[repr(C)]
@@ -110,6 +138,9 @@ const _: () = assert!(size_of::<Picture>() == 12 && size_of::<PictureAnswer>() =
 const _: () = assert!(size_of::<DecodedAnswer>() == 16 && size_of::<BlockAnswer>() == 16);
 const _: () = assert!(offset_of!(DecodedAnswer, low) == 4 && offset_of!(DecodedAnswer, codes) == 8);
 const _: () = assert!(offset_of!(BlockAnswer, low) == 8 && offset_of!(BlockAnswer, row) == 12);
+// Nor is one of a meter, its answer or its figures.
+const _: () = assert!(size_of::<Meter>() == 272 && size_of::<MeteredAnswer>() == 288 && size_of::<FiguresAnswer>() == 12);
+const _: () = assert!(offset_of!(Meter, highs) == 128 && offset_of!(Meter, low) == 256 && offset_of!(Meter, place) == 264);
 
 /// The refusal's number, or 0, and the values, or zeros.
 fn parts<T: Default>(outcome: Outcome<T>) -> (u32, T) {
@@ -236,6 +267,112 @@ impl From<Outcome<u32>> for TotalAnswer {
     fn from(outcome: Outcome<u32>) -> TotalAnswer {
         let (refusal, bytes) = parts(outcome);
         TotalAnswer { refusal, bytes }
+    }
+}
+
+impl From<exact::Figures> for FiguresAnswer {
+    fn from(figures: exact::Figures) -> FiguresAnswer {
+        FiguresAnswer {
+            rows: figures.rows as u32,
+            low: figures.low as u32,
+            high: figures.high as u32,
+        }
+    }
+}
+
+impl Meter {
+    pub const EMPTY: Meter = Meter {
+        lows: [0; METER_ROWS],
+        highs: [0; METER_ROWS],
+        low: 0,
+        high: 0,
+        place: 0,
+        rows: 0,
+    };
+
+    /// The counts at a place.
+    pub fn clips(&self, place: usize) -> Clips {
+        Clips {
+            low: self.lows[place],
+            high: self.highs[place],
+        }
+    }
+
+    pub fn set_clips(&mut self, place: usize, clips: Clips) {
+        self.lows[place] = clips.low;
+        self.highs[place] = clips.high;
+    }
+
+    /// With these figures.
+    pub fn showing(self, figures: exact::Figures) -> Meter {
+        let FiguresAnswer { rows, low, high } = figures.into();
+        Meter {
+            rows,
+            low,
+            high,
+            ..self
+        }
+    }
+
+    /// The rows that it holds, the latest last; none where its parts do not agree.
+    pub fn held(&self) -> Option<Vec<Clips>> {
+        let (place, rows) = (self.place as usize, self.rows as usize);
+        if place >= METER_ROWS || rows != METER_ROWS && rows != place {
+            return None;
+        }
+        let earliest = place + METER_ROWS - rows;
+        let held: Vec<Clips> = (earliest..earliest + rows).map(|at| self.clips(at % METER_ROWS)).collect();
+        (self.showing(exact::figures(&held)) == *self).then_some(held)
+    }
+
+    /// What it shows: a meter whose parts do not agree is taken as an empty one.
+    pub fn figures(&self) -> FiguresAnswer {
+        exact::figures(&self.held().unwrap_or_default()).into()
+    }
+
+    /// After a read: the accepted row's counts stand at the place, which is 0 in a meter taken as an empty one.
+    pub fn after(self, outcome: &Outcome<Row>) -> Meter {
+        let Ok(row) = outcome else {
+            return self;
+        };
+        let place = self.held().map_or(0, |_| self.place as usize);
+        let mut history = self.held().unwrap_or_default();
+        exact::enter(&mut history, outcome);
+        let mut after = self.showing(exact::figures(&history));
+        after.set_clips(place, row.clips);
+        after.place = ((place + 1) % METER_ROWS) as u32;
+        after
+    }
+
+    /// What is left of a meter that is empty, or taken so, by reading all rows of a history: a row is at the place of its number,
+    /// counted from 0 and again after 63, until a later one is there.
+    pub fn after_all(self, history: &[Clips]) -> Meter {
+        if history.is_empty() {
+            return self;
+        }
+        let mut after = self.showing(exact::figures(history));
+        for (number, &clips) in history.iter().enumerate() {
+            after.set_clips(number % METER_ROWS, clips);
+        }
+        after.place = (history.len() % METER_ROWS) as u32;
+        after
+    }
+}
+
+impl MeteredAnswer {
+    pub const WORDS: usize = size_of::<MeteredAnswer>() / 4;
+
+    /// A refused read gives the meter back as it was given.
+    pub fn of(given: Meter, outcome: &Outcome<Row>) -> MeteredAnswer {
+        MeteredAnswer {
+            block: outcome.into(),
+            meter: given.after(outcome),
+        }
+    }
+
+    /// All its bytes.
+    pub fn words(&self) -> [u32; MeteredAnswer::WORDS] {
+        unsafe { std::mem::transmute(*self) }
     }
 }
 

@@ -1,4 +1,5 @@
-//! The bench values of document 01 and of requests 2026-03 to 2026-07, of the exact program itself.
+//! The bench values of document 01 and of requests 2026-03 to 2026-08, of the exact program itself.
+use crate::answers::Meter;
 use crate::exact::*;
 
 pub fn check() {
@@ -11,6 +12,8 @@ pub fn check() {
     clips_of_rows();
     levels();
     totals();
+    histories();
+    meters();
 }
 
 fn lights() {
@@ -152,4 +155,35 @@ fn totals() {
     assert_eq!(total_bytes(7680, 4320), Ok(199_104_480));
     assert_eq!([0, 7681].map(|width| total_bytes(width, 0)), [Err(refusal::WIDTH); 2]);
     assert_eq!([0, 4321].map(|height| total_bytes(1, height)), [Err(refusal::HEIGHT); 2]);
+}
+
+/// A row with one low and two high, 63 with two low and one high, then none; and the most that 64 rows can have.
+fn histories() {
+    let mut history = vec![Clips { low: 1, high: 2 }];
+    history.extend([Clips { low: 2, high: 1 }; 63]);
+    history.extend([Clips::default(); 64]);
+    let shown = |rows: usize| figures(&history[..rows]);
+    let wanted = |rows, low, high| Figures { rows, low, high };
+    assert_eq!([0, 1, 2].map(shown), [wanted(0, 0, 0), wanted(1, 1, 2), wanted(2, 3, 3)]);
+    assert_eq!([63, 64].map(shown), [wanted(63, 125, 64), wanted(64, 127, 65)]);
+    assert_eq!([65, 66].map(shown), [wanted(64, 126, 63), wanted(64, 124, 62)]);
+    assert_eq!([127, 128].map(shown), [wanted(64, 2, 1), wanted(64, 0, 0)]);
+    let most = [Clips { low: 15360, high: 7680 }; 65];
+    assert_eq!(figures(&most), wanted(64, 983_040, 491_520));
+}
+
+/// A meter that goes from read to read is the one that its history makes, and holds the latest rows.
+fn meters() {
+    let rows = [[180, 1, 1], [75, 254, 254], [0, 128, 128], [126, 128, 128], [27, 254, 1]];
+    let (mut meter, mut history) = (Meter::EMPTY, vec![]);
+    for number in 0..400 {
+        let [y, cb, cr] = rows[number * number % 17 % 5];
+        let outcome = read_block(&block(1, 0, [&[y], &[cb], &[cr]]), 3);
+        meter = meter.after(&outcome);
+        enter(&mut history, &outcome);
+        assert_eq!(meter, Meter::EMPTY.after_all(&history));
+        assert_eq!(meter.held().as_deref(), Some(latest(&history)));
+        assert_eq!(meter.figures(), figures(&history).into());
+    }
+    assert!(history.len() > 256 && history.len() < 400);
 }

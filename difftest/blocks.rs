@@ -68,14 +68,14 @@ fn any_sections(system: &System, width: usize, random: &mut Pseudorandom) -> [Ve
     [system.highest(), top, top].map(|highest| any_section(system, highest, width, random))
 }
 
-fn block_of_width(system: &System, width: usize, random: &mut Pseudorandom) -> Vec<u8> {
+pub fn block_of_width(system: &System, width: usize, random: &mut Pseudorandom) -> Vec<u8> {
     let [y, cb, cr] = any_sections(system, width, random);
     let anywhere = random.below(exact::MOST_ROWS) as u16;
     let number = random.pick(&[0, 1, 255, 256, 4318, 4319, anywhere, anywhere]);
     exact::block(system.number as u8, number, [&y, &cb, &cr])
 }
 
-fn any_known(random: &mut Pseudorandom) -> &'static System {
+pub fn any_known(random: &mut Pseudorandom) -> &'static System {
     &SYSTEMS[random.below(4)]
 }
 
@@ -115,7 +115,7 @@ fn damage_word(bytes: &mut [u8], width: usize, random: &mut Pseudorandom) {
     put_word(bytes, place, word);
 }
 
-fn damage(bytes: &mut Vec<u8>, width: usize, random: &mut Pseudorandom) {
+pub fn damage(bytes: &mut Vec<u8>, width: usize, random: &mut Pseudorandom) {
     let length = bytes.len();
     match random.below(8) {
         0 => bytes.truncate(random.below(length + 1)),
@@ -130,7 +130,7 @@ fn damage(bytes: &mut Vec<u8>, width: usize, random: &mut Pseudorandom) {
     }
 }
 
-fn any_places(width: usize, random: &mut Pseudorandom) -> usize {
+pub fn any_places(width: usize, random: &mut Pseudorandom) -> usize {
     let need = 3 * width;
     let any = random.below(need + 9);
     random.pick(&[

@@ -14,6 +14,9 @@ ferghulta_decoded_answer exact_codes_of_words(uint32_t system, ferghulta_words w
 ferghulta_level_answer exact_level_of_code(uint32_t system, uint16_t code);
 ferghulta_level_answer exact_level_of_difference(uint32_t system, uint16_t word);
 ferghulta_block_answer exact_read_block(const uint8_t *bytes, size_t length, uint16_t *codes, size_t places);
+ferghulta_metered_answer exact_read_metered(
+    ferghulta_meter meter, const uint8_t *bytes, size_t length, uint16_t *codes, size_t places);
+ferghulta_figures exact_meter_figures(ferghulta_meter meter);
 ferghulta_total_answer exact_total_bytes(uint32_t width, uint32_t height);
 ferghulta_picture_answer exact_open(ferghulta_picture picture, uint32_t system, uint32_t width, uint32_t height);
 ferghulta_picture_answer exact_row(ferghulta_picture picture, const uint16_t *lights, size_t count, uint8_t *out, size_t room);

@@ -1,6 +1,6 @@
 //! Document 01 in exact arithmetic: whole numbers only, written from the document alone, nothing shared with the library.
 //! Which codes and words are accepted, and the rules on words, are those of request 2026-03; their order is request 2026-04's, and
-//! clips are counted as request 2026-07 has it.
+//! clips are counted as request 2026-07 has it. What later requests add stands at the end.
 //! A call answers its values, or `Err` with the refusal's number.
 use crate::natural::Natural;
 use std::ops::RangeInclusive;
@@ -700,4 +700,34 @@ pub fn level_of_difference(number: u32, word: u16) -> Outcome<Level> {
 pub fn total_bytes(width: u32, height: u32) -> Outcome<u32> {
     let (width, height) = size(width, height)?;
     Ok((height * (9 + 6 * width)) as u32)
+}
+
+// ---- request 2026-08, clipping over the last 64 rows
+
+/// How many rows a meter shows, and their low and high clipping.
+#[derive(Clone, Copy, Debug, Default, PartialEq)]
+pub struct Figures {
+    pub rows: usize,
+    pub low: u64,
+    pub high: u64,
+}
+
+/// 'The 64 latest rows read, or all of them if fewer', of a history of rows, the latest last.
+pub fn latest(history: &[Clips]) -> &[Clips] {
+    &history[history.len() - history.len().min(64)..]
+}
+
+/// 'The sums over that stretch of history.'
+pub fn figures(history: &[Clips]) -> Figures {
+    let rows = latest(history);
+    Figures {
+        rows: rows.len(),
+        low: rows.iter().map(|clips| u64::from(clips.low)).sum(),
+        high: rows.iter().map(|clips| u64::from(clips.high)).sum(),
+    }
+}
+
+/// 'Each accepted one enters one row', and 'a refused read enters nothing'.
+pub fn enter(history: &mut Vec<Clips>, outcome: &Outcome<Row>) {
+    history.extend(outcome.iter().map(|row| row.clips));
 }

@@ -23,6 +23,28 @@ pub unsafe extern "C" fn exact_read_block(
     BlockAnswer::from(&outcome)
 }
 
+/// # Safety
+/// As `exact_read_block`.
+#[no_mangle]
+pub unsafe extern "C" fn exact_read_metered(
+    meter: Meter,
+    bytes: *const u8,
+    length: usize,
+    codes: *mut u16,
+    places: usize,
+) -> MeteredAnswer {
+    let outcome = exact::read_block(from_raw_parts(bytes, length), places);
+    if let Ok(row) = &outcome {
+        from_raw_parts_mut(codes, row.codes.len()).copy_from_slice(&row.codes);
+    }
+    MeteredAnswer::of(meter, &outcome)
+}
+
+#[no_mangle]
+pub extern "C" fn exact_meter_figures(meter: Meter) -> FiguresAnswer {
+    meter.figures()
+}
+
 #[no_mangle]
 pub extern "C" fn exact_open(
     picture: Picture,

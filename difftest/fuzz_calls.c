@@ -1,4 +1,4 @@
-/* Lists of calls beside the exact program. libFuzzer's bytes are read as a list; the picture goes from call to call. */
+/* Lists of calls beside the exact program. libFuzzer's bytes are read as a list; the picture and the meter go from call to call. */
 #include "harness.h"
 
 enum { MOST_CALLS = 40, MOST_LIGHTS = 3 * FERGHULTA_MOST_SAMPLES + 8, MOST_ROOM = FERGHULTA_BLOCK_BYTES(FERGHULTA_MOST_SAMPLES) + 8 };
@@ -6,7 +6,8 @@ enum { MOST_CALLS = 40, MOST_LIGHTS = 3 * FERGHULTA_MOST_SAMPLES + 8, MOST_ROOM 
 struct list {
     const uint8_t *at, *end;
     ferghulta_picture picture;
-    uint8_t block[MOST_ROOM]; /* of the last row */
+    ferghulta_meter meter;
+    uint8_t block[MOST_ROOM]; /* of the last row, or any */
     size_t block_bytes;
 };
 
@@ -128,6 +129,28 @@ static void read_row(struct list *list)
     agree(READ_BLOCK, "the codes", codes, wanted_codes, sizeof codes);
 }
 
+/* Words of video data, by a step from a start. */
+static void fill_section(struct list *list, uint8_t *section, uint16_t width)
+{
+    uint16_t s = list->block[0] == 1 ? 1 : list->block[0] == 4 ? 16 : 4, any = word(list), step = word(list);
+    memcpy(section, &width, 2);
+    for (size_t j = 0; j < width; j++, any += step) {
+        uint16_t of_video_data = s + any % (254 * s);
+        memcpy(section + 2 + 2 * j, &of_video_data, 2);
+    }
+}
+
+/* A block of which many words clip. */
+static void any_block(struct list *list)
+{
+    uint16_t width = 1 + byte(list) % 8, row = word(list) % FERGHULTA_MOST_ROWS;
+    list->block[0] = 1 + byte(list) % 4;
+    memcpy(list->block + 1, &row, 2);
+    for (size_t section = 0; section < 3; section++)
+        fill_section(list, list->block + 3 + section * (2 + 2 * width), width);
+    list->block_bytes = FERGHULTA_BLOCK_BYTES(width);
+}
+
 /* Mostly those of the picture's rows, else a few more or fewer, others with the same low half, or any. */
 static uint32_t any_bytes(struct list *list, uint32_t bytes)
 {
@@ -150,6 +173,51 @@ static void any_picture(struct list *list)
 static void damage_bytes(struct list *list)
 {
     list->picture.bytes = any_bytes(list, list->picture.bytes);
+}
+
+/* ---- meters */
+
+/* One read of the block. Codes are compared a little beyond their places: narrow blocks are read many times. */
+static void read_metered(struct list *list)
+{
+    enum { BEYOND = 16 };
+    static uint16_t codes[MOST_LIGHTS + BEYOND], wanted_codes[MOST_LIGHTS + BEYOND];
+    size_t length = list->block_bytes, places = nearly(list, length / 2, MOST_LIGHTS);
+    ferghulta_metered_answer got = ferghulta_read_metered(list->meter, list->block, length, codes, places);
+    ferghulta_metered_answer wanted = exact_read_metered(list->meter, list->block, length, wanted_codes, places);
+    note(READ_METERED, got.block.refusal);
+    agree(READ_METERED, "the answer", &got, &wanted, sizeof got);
+    agree(READ_METERED, "the codes", codes, wanted_codes, (places + BEYOND) * sizeof *codes);
+    list->meter = got.meter;
+    agree_on_figures(list->meter);
+}
+
+/* Up to 70 reads of a narrow block, so that the meter is filled and goes round. */
+static void read_metered_again(struct list *list)
+{
+    int is_narrow = 0 < list->block_bytes && list->block_bytes < 100;
+    for (int times = is_narrow ? byte(list) % 71 : 1; times > 0; times--)
+        read_metered(list);
+}
+
+/* A meter that came from no call: counts by two steps, and mostly numbers that agree. */
+static void any_meter(struct list *list)
+{
+    fill_lights(list, list->meter.lows, FERGHULTA_METER_ROWS);
+    fill_lights(list, list->meter.highs, FERGHULTA_METER_ROWS);
+    list->meter.rows = number(list, 66);
+    list->meter.place = list->meter.rows < FERGHULTA_METER_ROWS ? list->meter.rows : number(list, 66);
+    sum_up(&list->meter);
+    agree_on_figures(list->meter);
+}
+
+/* Some bytes of the meter are others, mostly one. */
+static void damage_meter(struct list *list)
+{
+    uint8_t *bytes = (uint8_t *)&list->meter;
+    for (int times = 1 + byte(list) % 4; times > 0; times--)
+        bytes[word(list) % sizeof list->meter] ^= byte(list);
+    agree_on_figures(list->meter);
 }
 
 /* ---- values; the parts of an answer have no padding, the answer may */
@@ -229,7 +297,7 @@ static void totals(struct list *list)
 
 static void (*const calls[])(struct list *) = {
     open_picture, take_row, take_row, take_row, close_picture, read_row, any_picture, damage_bytes, totals, lights_and_codes, signals,
-    triples, levels,
+    triples, levels, any_block, read_metered, read_metered_again, any_meter, damage_meter,
 };
 
 int LLVMFuzzerTestOneInput(const uint8_t *data, size_t size)
@@ -238,6 +306,7 @@ int LLVMFuzzerTestOneInput(const uint8_t *data, size_t size)
     list.at = data;
     list.end = data + size;
     list.picture = ferghulta_new();
+    list.meter = ferghulta_empty_meter();
     list.block_bytes = 0;
     for (int call = 0; call < MOST_CALLS && list.at < list.end; call++)
         calls[byte(&list) % (sizeof calls / sizeof calls[0])](&list);

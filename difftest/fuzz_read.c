@@ -1,7 +1,8 @@
-/* Block reading beside the exact program, on blocks that libFuzzer makes.
+/* Block reading beside the exact program, by itself and with a meter, on blocks that libFuzzer makes.
  *
  * The first byte says how many places are lent beside those that the first count asks for. The rest is the block; where the second
- * byte is odd it is stretched: the words after the first count are repeated to fill three sections of that count.
+ * byte is odd it is stretched: the words after the first count are repeated to fill three sections of that count. Its upper bits say
+ * how many rows the meter has, whose counts are the bytes of the block again and again; from 66 on the whole meter is.
  */
 #include "harness.h"
 
@@ -41,6 +42,41 @@ static size_t stretch(const uint8_t *block, size_t length, uint8_t *to)
     return at;
 }
 
+/* Up to 65 rows the parts agree, but for 65 rows themselves. */
+static ferghulta_meter meter_of(const uint8_t *block, size_t length, uint32_t rows)
+{
+    ferghulta_meter meter = ferghulta_empty_meter();
+    uint8_t *bytes = (uint8_t *)&meter;
+    for (size_t at = 0; at < sizeof meter && length > 0; at++)
+        bytes[at] = block[at % length];
+    if (rows <= FERGHULTA_METER_ROWS + 1) {
+        meter.rows = rows;
+        meter.place = rows < FERGHULTA_METER_ROWS ? rows : meter.place % FERGHULTA_METER_ROWS;
+        sum_up(&meter);
+    }
+    return meter;
+}
+
+static void compare_metered(const uint8_t *block, size_t length, size_t places, uint32_t rows)
+{
+    static uint16_t wanted_memory[GUARD + MOST_PLACES];
+    uint8_t *bytes = bytes_end - length;
+    uint16_t *codes = (uint16_t *)codes_end - places, *memory = codes - GUARD;
+    size_t memory_bytes = (GUARD + places) * sizeof *memory;
+    ferghulta_meter meter = meter_of(block, length, rows);
+    memcpy(bytes, block, length);
+    memset(memory, 0x5A, memory_bytes);
+    memset(wanted_memory, 0x5A, memory_bytes);
+    ferghulta_metered_answer got = ferghulta_read_metered(meter, bytes, length, codes, places);
+    ferghulta_metered_answer wanted = exact_read_metered(meter, block, length, wanted_memory + GUARD, places);
+    note(READ_METERED, got.block.refusal);
+    agree(READ_METERED, "the answer", &got, &wanted, sizeof got);
+    agree(READ_METERED, "the codes", memory, wanted_memory, memory_bytes);
+    agree(READ_METERED, "the bytes lent", bytes, block, length);
+    agree_on_figures(meter);
+    agree_on_figures(got.meter);
+}
+
 static void compare(const uint8_t *block, size_t length, size_t places)
 {
     static uint16_t wanted_memory[GUARD + MOST_PLACES];
@@ -69,6 +105,8 @@ int LLVMFuzzerTestOneInput(const uint8_t *data, size_t size)
         length = stretch(block, length, stretched);
         block = stretched;
     }
-    compare(block, length, places_for((int8_t)data[0], first_count(block, length)));
+    size_t places = places_for((int8_t)data[0], first_count(block, length));
+    compare(block, length, places);
+    compare_metered(block, length, places, data[1] / 2);
     return 0;
 }

@@ -15,6 +15,8 @@ enum call {
     ROW,
     CLOSE,
     READ_BLOCK,
+    READ_METERED,
+    METER_FIGURES,
     CODE_OF_LIGHT,
     SPAN_OF_CODE,
     CODES_OF_SIGNALS,
@@ -28,9 +30,9 @@ enum call {
     CALLS
 };
 
-static const char *const names[CALLS] = { "open", "row", "close", "read_block", "code_of_light", "span_of_code", "codes_of_signals",
-    "signals_of_codes", "words_of_codes", "trimmed_words_of_codes", "codes_of_words", "level_of_code", "level_of_difference",
-    "total_bytes" };
+static const char *const names[CALLS] = { "open", "row", "close", "read_block", "read_metered", "meter_figures", "code_of_light",
+    "span_of_code", "codes_of_signals", "signals_of_codes", "words_of_codes", "trimmed_words_of_codes", "codes_of_words",
+    "level_of_code", "level_of_difference", "total_bytes" };
 
 /* The library is not instrumented, so its refusals are told to libFuzzer as counters of their own. */
 __attribute__((section("__libfuzzer_extra_counters"))) static uint8_t refused[CALLS][REFUSALS];
@@ -65,6 +67,24 @@ static inline void agree(enum call call, const char *what, const void *got, cons
         return;
     fprintf(stderr, "%s differs: %s\n", names[call], what);
     abort();
+}
+
+/* Compares the figures of a meter. */
+static inline void agree_on_figures(ferghulta_meter meter)
+{
+    ferghulta_figures got = ferghulta_meter_figures(meter), wanted = exact_meter_figures(meter);
+    note(METER_FIGURES, 0);
+    agree(METER_FIGURES, "the figures", &got, &wanted, sizeof got);
+}
+
+/* Makes the sums of a meter those of its first counts, so many as it has rows. */
+static inline void sum_up(ferghulta_meter *meter)
+{
+    meter->low = meter->high = 0;
+    for (uint32_t at = 0; at < meter->rows && at < FERGHULTA_METER_ROWS; at++) {
+        meter->low += meter->lows[at];
+        meter->high += meter->highs[at];
+    }
 }
 
 /* The end of fresh pages that are filled with a pattern; a call that reads or writes behind it is ended there. */

@@ -50,6 +50,12 @@ impl Item for u16 {
     }
 }
 
+impl Item for u32 {
+    fn of_bits(bits: u64) -> u32 {
+        bits as u32
+    }
+}
+
 thread_local! {
     static FREE_PAGES: RefCell<Vec<*mut u8>> = const { RefCell::new(Vec::new()) };
 }

@@ -29,13 +29,21 @@ extern "C" {
         codes: *mut u16,
         places: usize,
     ) -> BlockAnswer;
+    pub fn ferghulta_read_metered(
+        meter: Meter,
+        bytes: *const u8,
+        length: usize,
+        codes: *mut u16,
+        places: usize,
+    ) -> MeteredAnswer;
+    pub fn ferghulta_meter_figures(meter: Meter) -> FiguresAnswer;
     pub fn ferghulta_to_segmented(from: *const u8, length: usize, to: *mut u8, room: usize) -> u32;
     pub fn ferghulta_to_progressive(from: *const u8, length: usize, to: *mut u8, room: usize) -> u32;
 }
 
 /// The same calls with what the x86-64 convention leaves open, filled: the upper half of a register with a u32 or a u16, the fourth
-/// word of one with a triple, the upper lane of one with the third float, the upper half of the second one of a picture. No answer
-/// may depend on it.
+/// word of one with a triple, the upper lane of one with the third float, the upper half of the second one of a picture, the stack
+/// behind a meter, the memory to which the answer of a metered read goes. No answer may depend on it.
 pub mod filled {
     use crate::answers::*;
 
@@ -46,6 +54,10 @@ pub mod filled {
     #[repr(C)]
     #[derive(Clone, Copy)]
     pub struct WidePicture(pub Picture, pub u32);
+
+    #[repr(C)]
+    #[derive(Clone, Copy)]
+    pub struct LongMeter(pub Meter, pub [u32; 4]);
 
     #[allow(clashing_extern_declarations)]
     extern "C" {
@@ -66,5 +78,15 @@ pub mod filled {
             out: *mut u8,
             room: usize,
         ) -> PictureAnswer;
+        /// An answer of more than 16 bytes goes where the first register says, and the call gives that address back.
+        pub fn ferghulta_read_metered(
+            answer: *mut MeteredAnswer,
+            meter: LongMeter,
+            bytes: *const u8,
+            length: usize,
+            codes: *mut u16,
+            places: usize,
+        ) -> *mut MeteredAnswer;
+        pub fn ferghulta_meter_figures(meter: LongMeter) -> FiguresAnswer;
     }
 }

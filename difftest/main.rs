@@ -9,6 +9,7 @@ mod exact;
 mod lent;
 mod library;
 mod lists;
+mod meters;
 mod natural;
 mod pictures;
 mod pseudorandom;
@@ -93,6 +94,8 @@ fn compare(effort: &Effort, seed: u64) -> bool {
         & values::levels(effort, random)
         & pictures::total_bytes(effort, random)
         & clips::clipping_low_and_high(effort, random)
+        & meters::read_metered(effort, random)
+        & meters::lists(effort, random)
 }
 
 /// The form, and cases and seed where they are given.

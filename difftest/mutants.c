@@ -14,6 +14,8 @@ ferghulta_decoded_answer right_ferghulta_codes_of_words(uint32_t, ferghulta_word
 ferghulta_level_answer right_ferghulta_level_of_code(uint32_t, uint16_t);
 ferghulta_level_answer right_ferghulta_level_of_difference(uint32_t, uint16_t);
 ferghulta_block_answer right_ferghulta_read_block(const uint8_t *, size_t, uint16_t *, size_t);
+ferghulta_metered_answer right_ferghulta_read_metered(ferghulta_meter, const uint8_t *, size_t, uint16_t *, size_t);
+ferghulta_figures right_ferghulta_meter_figures(ferghulta_meter);
 ferghulta_total_answer right_ferghulta_total_bytes(uint32_t, uint32_t);
 ferghulta_picture right_ferghulta_new(void);
 ferghulta_picture_answer right_ferghulta_open(ferghulta_picture, uint32_t, uint32_t, uint32_t);
@@ -400,6 +402,284 @@ ferghulta_block_answer ferghulta_read_block(const uint8_t *bytes, size_t length,
         answer.clips = spoilt_clips(OF_ROW, answer.system, answer.clips, codes, written);
     }
     return answer;
+}
+
+/* ---- meters */
+
+enum { ROWS = FERGHULTA_METER_ROWS };
+
+static uint32_t sum_of(const uint16_t *counts, size_t first, size_t behind)
+{
+    uint32_t sum = 0;
+    for (size_t at = first; at < behind && at < ROWS; at++)
+        sum += counts[at];
+    return sum;
+}
+
+static ferghulta_meter with_sums(ferghulta_meter meter)
+{
+    meter.low = sum_of(meter.lows, 0, meter.rows);
+    meter.high = sum_of(meter.highs, 0, meter.rows);
+    return meter;
+}
+
+/* Whether the parts of a meter agree. */
+static int is_whole(ferghulta_meter meter)
+{
+    ferghulta_meter summed = with_sums(meter);
+    int has_rows = meter.place < ROWS && (meter.rows == ROWS || meter.rows == meter.place);
+    return has_rows && meter.low == summed.low && meter.high == summed.high;
+}
+
+/* The first of the ten below that are of a read, and the first of those that are of figures. */
+enum { OF_READ = 96, OF_FIGURES = 106 };
+
+/* With one part not looked at. */
+static ferghulta_meter overlooked(int first, ferghulta_meter meter)
+{
+    ferghulta_meter summed = with_sums(meter);
+    uint32_t low = sum_of(meter.lows, 0, ROWS), high = sum_of(meter.highs, 0, ROWS);
+    if (mutant(first))
+        meter.place %= ROWS;
+    if (mutant(first + 1) && meter.rows > ROWS)
+        meter.rows = ROWS;
+    if (mutant(first + 2) && meter.rows < ROWS && meter.place < ROWS)
+        meter.place = meter.rows;
+    if (mutant(first + 3))
+        meter.low = summed.low;
+    if (mutant(first + 4))
+        meter.high = summed.high;
+    if (mutant(first + 5) && meter.low + meter.high == summed.low + summed.high)
+        return summed; /* the total alone is looked at */
+    if (mutant(first + 6) && meter.low % 65536 == summed.low % 65536 && meter.high % 65536 == summed.high % 65536)
+        return summed; /* the low halves alone are */
+    if (mutant(first + 7) && meter.low == low && meter.high == high)
+        return summed; /* sums of all 64 counts will do */
+    return meter;
+}
+
+static int has_count_above(const ferghulta_meter *meter, int most)
+{
+    int found = 0;
+    for (size_t at = 0; at < meter->rows; at++)
+        found |= meter->lows[at] > most || meter->highs[at] > most;
+    return found;
+}
+
+/* Whether too much is asked of a meter whose parts agree: that no count stands behind the rows, or counts that rows can have. */
+static int looks_amiss(int first, const ferghulta_meter *meter)
+{
+    int has_more = sum_of(meter->lows, meter->rows, ROWS) + sum_of(meter->highs, meter->rows, ROWS) > 0;
+    return (mutant(first + 8) && has_more) || (mutant(first + 9) && has_count_above(meter, 3 * FERGHULTA_MOST_SAMPLES));
+}
+
+/* What a meter is taken for where its parts are looked at wrongly. */
+static ferghulta_meter taken_meter(int first, ferghulta_meter given)
+{
+    ferghulta_meter meter = overlooked(first, given);
+    if (!is_whole(meter))
+        return given;
+    if (looks_amiss(first, &meter))
+        meter.place = ROWS;
+    return meter;
+}
+
+/* Wrong sums after a row has come in at a place and one with these counts has gone. */
+static void spoil_sums(ferghulta_meter *after, ferghulta_clips gone, size_t at)
+{
+    if (mutant(116) && after->rows == ROWS) { /* 63 rows */
+        after->rows = ROWS - 1;
+        after->low -= after->lows[after->place];
+        after->high -= after->highs[after->place];
+    }
+    if (mutant(117) || mutant(118) || (mutant(119) && at == ROWS - 1)) { /* 65 rows; no row goes; none goes from the last place */
+        after->rows += mutant(117) && after->rows == ROWS;
+        after->low += gone.low;
+        after->high += gone.high;
+    }
+    if (mutant(120)) { /* exchanged */
+        uint32_t low = after->low;
+        after->low = after->high;
+        after->high = low;
+    }
+    if (mutant(121))
+        after->low %= 65536;
+    if (mutant(122))
+        after->low %= 1 << 19; /* wrong in rows that are all low */
+    if (mutant(123))
+        after->high %= 1 << 19; /* wrong in rows that are all high */
+    if (mutant(124))
+        after->high %= 1 << 21; /* wrong with counts that no row has */
+    if (mutant(125)) { /* what stands behind the rows is counted */
+        after->low = sum_of(after->lows, 0, ROWS);
+        after->high = sum_of(after->highs, 0, ROWS);
+    }
+}
+
+/* Wrong counts, place or rows after a row has come in at a place; before, the meter was full or not. */
+static void spoil_rows(ferghulta_meter *after, ferghulta_clips clips, ferghulta_clips gone, size_t at, int was_full)
+{
+    if (mutant(126))
+        after->place = (uint32_t)at; /* the newest row is overwritten */
+    if (mutant(127))
+        after->highs[at] = clips.low; /* low entered as high */
+    if (mutant(128)) { /* exchanged */
+        after->lows[at] = clips.high;
+        after->highs[at] = clips.low;
+    }
+    if (mutant(129) || (mutant(130) && was_full)) { /* the sums alone are kept; after 64 rows they alone are */
+        after->lows[at] = gone.low;
+        after->highs[at] = gone.high;
+    }
+    if (mutant(131))
+        after->rows += was_full; /* not stopped at 64 */
+    if (mutant(132))
+        after->place %= ROWS - 1; /* place 63 is left out */
+    if (mutant(133) && after->place == 0)
+        after->place = ROWS; /* there is a place 64 */
+    if (mutant(134) && was_full)
+        after->lows[after->place] = 0; /* the count that goes next is lost */
+    if (mutant(135) && after->rows < ROWS)
+        after->highs[after->place] = 0; /* a count behind the rows is cleared */
+}
+
+/* A meter that was taken as an empty one, made wrong. */
+static void spoil_begun(ferghulta_meter given, ferghulta_clips clips, ferghulta_meter *after)
+{
+    size_t at = given.place % ROWS;
+    if (mutant(136)) { /* the other counts are cleared */
+        *after = ferghulta_empty_meter();
+        after->lows[0] = clips.low;
+        after->highs[0] = clips.high;
+        after->low = clips.low;
+        after->high = clips.high;
+        after->place = after->rows = 1;
+    }
+    if (mutant(137)) { /* the row stands where the next one would have stood */
+        after->lows[0] = given.lows[0];
+        after->lows[at] = clips.low;
+    }
+    if (mutant(138))
+        after->low += given.low; /* added */
+    if (mutant(139))
+        after->place = (uint32_t)(at + 1) % ROWS; /* goes on */
+    if (mutant(140))
+        after->rows = given.rows < ROWS ? given.rows + 1 : ROWS; /* goes on */
+}
+
+static void spoil_accepted(ferghulta_meter taken, ferghulta_clips clips, ferghulta_meter *after)
+{
+    int whole = is_whole(taken), was_full = whole && taken.rows == ROWS;
+    size_t at = whole ? taken.place : 0;
+    ferghulta_clips before = { taken.lows[at], taken.highs[at] }, none = { 0, 0 };
+    spoil_sums(after, was_full ? before : none, at);
+    spoil_rows(after, clips, before, at, was_full);
+    if (!whole)
+        spoil_begun(taken, clips, after);
+}
+
+/* The meter that a refused read gives, made wrong. */
+static void spoil_refused(const uint8_t *bytes, size_t length, uint32_t refusal, ferghulta_meter *meter)
+{
+    static uint16_t read[3 * FERGHULTA_MOST_SAMPLES];
+    if (mutant(141) && is_whole(*meter)) { /* a row without clips is entered, where the parts agree */
+        meter->rows += meter->rows < ROWS;
+        meter->place = (meter->place + 1) % ROWS;
+    }
+    if (mutant(142) && refusal == 5) /* the row is entered before it is refused */
+        *meter = right_ferghulta_read_metered(*meter, bytes, length, read, sizeof read / sizeof *read).meter;
+    if (mutant(143))
+        *meter = ferghulta_empty_meter();
+    if (mutant(144))
+        meter->high = 0;
+    if (mutant(145) && !is_whole(*meter))
+        *meter = ferghulta_empty_meter(); /* what a meter is taken for comes back */
+    if (mutant(146) && meter->rows < ROWS)
+        meter->lows[ROWS - 1] = 0; /* a count behind the rows is cleared */
+}
+
+/* The block's answer of a metered read, made wrong. */
+static void spoil_block(ferghulta_meter meter, const uint8_t *bytes, size_t places, ferghulta_block_answer *block)
+{
+    int accepted = block->refusal == 0;
+    if (mutant(147))
+        block->clips = (ferghulta_clips){ 0, 0 }; /* lost */
+    if (mutant(148))
+        block->clips = (ferghulta_clips){ block->clips.high, block->clips.low }; /* exchanged */
+    if (mutant(149) && accepted)
+        block->row = (uint16_t)meter.rows; /* numbered by the meter */
+    if (mutant(150) && block->refusal == 6 && places < (size_t)3 * bytes[3])
+        block->refusal = 5; /* the room before the words */
+    if (mutant(151) && accepted && !is_whole(meter))
+        *block = (ferghulta_block_answer){ .refusal = 22 }; /* a meter whose parts do not agree is refused */
+    if (mutant(152) && block->refusal == 10)
+        block->row = word_at(bytes, 1); /* not 0 on refusal */
+}
+
+/* The codes of a metered read, made wrong. */
+static void spoil_codes(ferghulta_block_answer block, uint16_t *codes, size_t places)
+{
+    size_t written = 3 * (size_t)block.samples;
+    if (mutant(153) && block.refusal == 5 && places > 0)
+        codes[0] = 0; /* written before it was refused */
+    if (mutant(154) && block.refusal == 0 && places > written)
+        codes[written] = 0; /* beyond the part written */
+}
+
+ferghulta_metered_answer ferghulta_read_metered(
+    ferghulta_meter meter, const uint8_t *bytes, size_t length, uint16_t *codes, size_t places)
+{
+    static uint16_t others[3 * FERGHULTA_MOST_SAMPLES + 9];
+    static ferghulta_meter last;
+    if (mutant(167))
+        meter = last; /* the one that the call before gave, whatever is given */
+    ferghulta_meter taken = taken_meter(OF_READ, meter);
+    ferghulta_metered_answer answer =
+        right_ferghulta_read_metered(taken, bytes, length, mutant(156) ? others : codes, places); /* codes are left unwritten */
+    if (answer.block.refusal == 0) {
+        answer.meter.low += meter.low - taken.low;
+        answer.meter.high += meter.high - taken.high;
+        spoil_accepted(taken, answer.block.clips, &answer.meter);
+    } else {
+        answer.meter = meter;
+        spoil_refused(bytes, length, answer.block.refusal, &answer.meter);
+    }
+    spoil_codes(answer.block, codes, places);
+    spoil_block(meter, bytes, places, &answer.block);
+    if (mutant(155))
+        kept = bytes[length]; /* read behind the block */
+    last = answer.meter;
+    return answer;
+}
+
+ferghulta_figures ferghulta_meter_figures(ferghulta_meter meter)
+{
+    ferghulta_meter taken = taken_meter(OF_FIGURES, meter);
+    ferghulta_figures shown = right_ferghulta_meter_figures(taken);
+    int whole = is_whole(taken);
+    shown.low += meter.low - taken.low;
+    shown.high += meter.high - taken.high;
+    if (mutant(157))
+        return (ferghulta_figures){ shown.rows, shown.high, shown.low }; /* exchanged */
+    if (mutant(158) && whole)
+        shown.rows = meter.place;
+    if (mutant(159) && whole)
+        shown.rows = ROWS;
+    if (mutant(160) && shown.rows == ROWS)
+        shown.low -= meter.lows[meter.place]; /* 63 rows */
+    if (mutant(161))
+        shown.low %= 65536;
+    if (mutant(162))
+        shown.high %= 1 << 19; /* wrong in rows that are all high */
+    if (mutant(163) && whole)
+        shown.high = sum_of(meter.highs, 0, ROWS); /* what stands behind the rows is counted */
+    if (mutant(164))
+        return (ferghulta_figures){ meter.rows, meter.low, meter.high }; /* whether its parts agree or not */
+    if (mutant(165) && !whole)
+        shown.rows = meter.rows < ROWS ? meter.rows : ROWS; /* of a meter whose parts do not agree */
+    if (mutant(166))
+        return (ferghulta_figures){ shown.rows, shown.low + shown.high, 0 }; /* the total as low */
+    return shown;
 }
 
 /* ---- pictures and segmented frames */

@@ -269,6 +269,114 @@ static void clips_of_rows(void) {
     expect("last sample's B", codes[places - 1], 1);
 }
 
+static void expect_figures(ferghulta_meter meter, uint32_t rows, uint32_t low, uint32_t high) {
+    const ferghulta_figures shown = ferghulta_meter_figures(meter);
+    expect("metered rows", shown.rows, rows);
+    expect("metered low", shown.low, low);
+    expect("metered high", shown.high, high);
+}
+
+static int is_same_meter(ferghulta_meter one, ferghulta_meter other) {
+    return memcmp(&one, &other, sizeof one) == 0;
+}
+
+/* Blocks of one sample, with two low and one high, with one low and two high, and with none. */
+enum { GREEN, MAGENTA, GREY };
+static uint8_t one_sample[3][FERGHULTA_BLOCK_BYTES(1)];
+
+static void fill_one_sample(void) {
+    static const ferghulta_words words[] = {{180, 1, 1}, {75, 254, 254}, {126, 128, 128}};
+    for (int i = 0; i < 3; i++) fill_block(one_sample[i], 1, &words[i], 1);
+}
+
+/* So many reads of a block, each accepted. */
+static ferghulta_meter read_rows(ferghulta_meter meter, int block, int times) {
+    uint16_t codes[3];
+    for (int i = 0; i < times; i++)
+        expect("read in place", ferghulta_read_metered_of(&meter, one_sample[block], 15, codes, 3).refusal, 0);
+    return meter;
+}
+
+/* A magenta row and 63 green ones; the 65th row lets the magenta one go, the next ones a green one each. */
+static void meters(void) {
+    uint16_t codes[4] = {0, 0, 0, 9};
+    fill_one_sample();
+    ferghulta_meter meter = ferghulta_empty_meter();
+    expect_figures(meter, 0, 0, 0);
+    ferghulta_metered_answer first = ferghulta_read_metered(meter, one_sample[MAGENTA], 15, codes, 4);
+    expect("metered block", first.block.refusal, 0);
+    expect("metered block's system", first.block.system, 1);
+    expect("metered block's samples", first.block.samples, 1);
+    expect_clips(first.block.clips, 1, 2);
+    for (int j = 0; j < 4; j++) expect("metered code", codes[j], j == 3 ? 9 : j == 1 ? 1 : 254);
+    expect_figures(first.meter, 1, 1, 2);
+    meter = read_rows(first.meter, GREEN, 62);
+    expect_figures(meter, 63, 125, 64);
+    expect("place of 63 rows", meter.place, 63);
+    meter = read_rows(meter, GREEN, 1);
+    expect_figures(meter, 64, 127, 65);
+    expect("place of 64 rows", meter.place, 0);
+    meter = read_rows(meter, GREY, 1);
+    expect_figures(meter, 64, 126, 63);
+    expect("place of 65 rows", meter.place, 1);
+    meter = read_rows(meter, MAGENTA, 1);
+    expect_figures(meter, 64, 125, 64);
+    meter = read_rows(meter, GREY, 62);
+    expect_figures(meter, 64, 1, 2);
+    meter = read_rows(meter, GREY, 1);
+    expect_figures(meter, 64, 1, 2);
+    meter = read_rows(meter, GREY, 1);
+    expect_figures(meter, 64, 0, 0);
+}
+
+/* A code too many, and a meter whose parts do not agree. */
+static void refused_and_other_meters(void) {
+    uint16_t codes[3] = {7, 8, 9};
+    const ferghulta_meter meter = read_rows(ferghulta_empty_meter(), GREEN, 3);
+    ferghulta_metered_answer refused = ferghulta_read_metered(meter, one_sample[GREEN], 15, codes, 2);
+    expect("a metered code too many", refused.block.refusal, FERGHULTA_REFUSED_OUTPUT);
+    expect_clips(refused.block.clips, 0, 0);
+    expect("meter of a refused read", is_same_meter(refused.meter, meter), 1);
+    for (int j = 0; j < 3; j++) expect("code of a refused read", codes[j], 7 + j);
+
+    ferghulta_meter behind = meter; /* counts of no row */
+    behind.lows[3] = behind.highs[63] = 65535;
+    expect_figures(behind, 3, 6, 3);
+    expect_figures(read_rows(behind, MAGENTA, 1), 4, 7, 5);
+
+    ferghulta_meter others[5] = {meter, meter, meter, meter, meter};
+    others[0].place = 64;
+    others[1].rows = 65;
+    others[2].rows = 2;
+    others[3].low++;
+    others[4].highs[2]--;
+    for (int i = 0; i < 5; i++) {
+        expect_figures(others[i], 0, 0, 0);
+        refused = ferghulta_read_metered(others[i], one_sample[GREEN], 14, codes, 3);
+        expect("a metered block without its end", refused.block.refusal, FERGHULTA_REFUSED_BLOCK_END);
+        expect("another meter of a refused read", is_same_meter(refused.meter, others[i]), 1);
+        ferghulta_meter begun = others[i];
+        begun.lows[0] = 1;
+        begun.highs[0] = 2;
+        begun.low = begun.place = begun.rows = 1;
+        begun.high = 2;
+        expect("a meter begun", is_same_meter(read_rows(others[i], MAGENTA, 1), begun), 1);
+    }
+}
+
+/* The most that 64 rows can have: two low and one high in each sample. */
+static void widest_metered_rows(void) {
+    static const ferghulta_words green = {180, 1, 1};
+    static uint8_t block[FERGHULTA_BLOCK_BYTES(WIDEST)];
+    static uint16_t codes[FERGHULTA_ROW_CODES(WIDEST)];
+    ferghulta_meter meter = ferghulta_empty_meter();
+    fill_block(block, WIDEST, &green, 1);
+    for (int row = 0; row < FERGHULTA_METER_ROWS; row++)
+        expect("widest row", ferghulta_read_metered_of(&meter, block, sizeof block, codes, 3 * WIDEST).refusal, 0);
+    expect_figures(meter, 64, 983040, 491520);
+    expect_figures(read_rows(meter, GREY, 1), 64, 967680, 483840);
+}
+
 /* Rows that are sent last first, each with a copy of the picture at its number, are those that are sent in turn. */
 static void rows_in_any_order(void) {
     enum { ROWS = 3 };
@@ -347,6 +455,9 @@ int main(void) {
     bytes_of_pictures();
     listing();
     clips_of_rows();
+    meters();
+    refused_and_other_meters();
+    widest_metered_rows();
     rows_in_any_order();
     segments();
     refusal_texts();

@@ -4,8 +4,8 @@
 
 use core::fmt;
 
-/// The version of the header that this file follows, as one number: 50000 is 5.0.0.
-pub const VERSION: u32 = 50000;
+/// The version of the header that this file follows, as one number: 50100 is 5.1.0.
+pub const VERSION: u32 = 50100;
 
 /// The version of the archive that the program is linked with.
 #[must_use]
@@ -215,6 +215,8 @@ unsafe extern "C" {
     safe fn ferghulta_close(picture: Kept) -> Answer<Kept>;
     fn ferghulta_row(picture: Kept, lights: *const u16, count: usize, out: *mut u8, room: usize) -> Answer<Kept>;
     fn ferghulta_read_block(bytes: *const u8, length: usize, codes: *mut u16, places: usize) -> Answer<NumberedBlock>;
+    fn ferghulta_read_metered(m: Meter, bytes: *const u8, length: usize, codes: *mut u16, places: usize) -> Metered;
+    safe fn ferghulta_meter_figures(meter: Meter) -> Figures;
     fn ferghulta_to_segmented(progressive: *const u8, length: usize, segmented: *mut u8, room: usize) -> u32;
     fn ferghulta_to_progressive(segmented: *const u8, length: usize, progressive: *mut u8, room: usize) -> u32;
 }
@@ -272,8 +274,59 @@ impl System {
 pub fn read_block(bytes: &[u8], codes: &mut [u16]) -> Result<Block, Refusal> {
     // SAFETY: both slices are lent for the call with their own lengths, and a slice's pointer is never null.
     let answer = unsafe { ferghulta_read_block(bytes.as_ptr(), bytes.len(), codes.as_mut_ptr(), codes.len()) };
+    block_of(answer)
+}
+
+fn block_of(answer: Answer<NumberedBlock>) -> Result<Block, Refusal> {
     let NumberedBlock { system, clips, row, samples } = answer.result()?;
     Ok(Block { system: System::ALL[system as usize - 1], clips, row, samples })
+}
+
+/// Low and high clipping over the 64 latest rows read, or all of them if fewer. Its own reads alone change it, and a
+/// refused one leaves it as it was.
+#[derive(Clone, Copy)]
+#[repr(C)]
+#[must_use]
+pub struct Meter {
+    lows: [u16; 64],
+    highs: [u16; 64],
+    low: u32,
+    high: u32,
+    place: u32,
+    rows: u32,
+}
+
+#[repr(C)]
+struct Metered {
+    block: Answer<NumberedBlock>,
+    meter: Meter,
+}
+
+/// What a meter shows: low and high are over so many rows, at most 64.
+#[derive(Clone, Copy, Debug, PartialEq, Eq)]
+#[repr(C)]
+pub struct Figures {
+    pub rows: u32,
+    pub low: u32,
+    pub high: u32,
+}
+
+impl Meter {
+    pub const EMPTY: Meter = Meter { lows: [0; 64], highs: [0; 64], low: 0, high: 0, place: 0, rows: 0 };
+
+    /// Reads a block as `read_block` does, and enters the row's clips; of 64 rows the earliest goes.
+    pub fn read(&mut self, bytes: &[u8], codes: &mut [u16]) -> Result<Block, Refusal> {
+        let (from, to) = (bytes, codes);
+        // SAFETY: both slices are lent for the call with their own lengths, and a slice's pointer is never null.
+        let answer = unsafe { ferghulta_read_metered(*self, from.as_ptr(), from.len(), to.as_mut_ptr(), to.len()) };
+        *self = answer.meter;
+        block_of(answer.block)
+    }
+
+    #[must_use]
+    pub fn figures(&self) -> Figures {
+        ferghulta_meter_figures(*self)
+    }
 }
 
 /// Writes the 1080 equally long rows of `progressive` to `segmented`, which is as long, in segmented-frame order.

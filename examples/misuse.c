@@ -13,6 +13,8 @@ ferghulta_picture sent(ferghulta_picture picture);
 ferghulta_picture at_end(ferghulta_picture picture);
 uint32_t sent_of(ferghulta_picture *picture);
 uint32_t block_read(void);
+ferghulta_meter metered(ferghulta_meter meter);
+uint32_t metered_of(ferghulta_meter *meter);
 uint32_t segmented(void);
 
 ferghulta_picture sent(ferghulta_picture picture) {
@@ -48,6 +50,24 @@ uint32_t block_read(void) {
 #else
     return ferghulta_read_block(bytes, sizeof bytes, words, 3).refusal;
 #endif
+}
+
+ferghulta_meter metered(ferghulta_meter meter) {
+#if MISUSE == 8
+    ferghulta_read_metered(meter, bytes, sizeof bytes, words, 3); /* the next meter is dropped */
+#else
+    meter = ferghulta_read_metered(meter, bytes, sizeof bytes, words, 3).meter;
+#endif
+    return ferghulta_meter_figures(meter).rows == 0 ? ferghulta_empty_meter() : meter;
+}
+
+uint32_t metered_of(ferghulta_meter *meter) {
+#if MISUSE == 9
+    ferghulta_read_metered_of(meter, bytes, sizeof bytes, words, 3); /* the refusal is dropped */
+#elif MISUSE == 10
+    if (ferghulta_read_metered_of(meter, bytes, 0, 0, 0).refusal) return 1; /* null with a count of 0 */
+#endif
+    return ferghulta_read_metered_of(meter, bytes, sizeof bytes, words, 3).refusal;
 }
 
 uint32_t segmented(void) {

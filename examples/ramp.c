@@ -1,6 +1,6 @@
 /* In each system a picture is sent, rows of a ramp and of random light in turn, and read back. Then a picture in
- * segmented-frame order, and some calls that are refused. `make example` builds and runs it; examples/ramp.rs is the
- * same program in Rust. */
+ * segmented-frame order, words beyond nominal, a meter, and some calls that are refused. `make example` builds and runs
+ * it; examples/ramp.rs is the same program in Rust. */
 #include <stdio.h>
 #include <stdlib.h>
 #include <string.h>
@@ -137,6 +137,20 @@ static void saturated_words(void) {
            (unsigned)answer.codes.g, (unsigned)answer.codes.b, (unsigned)answer.clips.low, (unsigned)answer.clips.high);
 }
 
+/* Rows of one sample, 40 of the words above and then 80 greys: the meter shows the 64 latest. */
+static void metered_rows(void) {
+    static const uint8_t saturated[] = {1, 0, 0, 1, 0, 180, 0, 1, 0, 1, 0, 1, 0, 1, 0};
+    static const uint8_t grey[] = {1, 0, 0, 1, 0, 126, 0, 1, 0, 128, 0, 1, 0, 128, 0};
+    ferghulta_meter meter = ferghulta_empty_meter();
+    for (unsigned row = 1; row <= 120; row++) {
+        must_accept(ferghulta_read_metered_of(&meter, row <= 40 ? saturated : grey, sizeof grey, codes, 3).refusal);
+        if (row % 40 != 0) continue;
+        const ferghulta_figures shown = ferghulta_meter_figures(meter);
+        printf("meter after %3u rows: low %u high %u in the latest %u\n", row, (unsigned)shown.low,
+               (unsigned)shown.high, (unsigned)shown.rows);
+    }
+}
+
 static void show(const char *call, uint32_t refusal) {
     printf("%-32s %2u  %s\n", call, (unsigned)refusal, ferghulta_refusal_text(refusal));
 }
@@ -170,6 +184,7 @@ int main(void) {
     printf("\nwords, levels and codes beyond nominal, BT.709 8 bits\n");
     lamps();
     saturated_words();
+    metered_rows();
     printf("\n%-32s %s\n", "refused call", "number and meaning");
     refusals();
     return EXIT_SUCCESS;

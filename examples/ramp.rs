@@ -1,6 +1,6 @@
 //! examples/ramp.c in Rust: the same calls, the same lines. `make example-rust` runs it and compares the two.
 use ferghulta::{read_block, to_progressive, to_segmented, version, VERSION};
-use ferghulta::{Codes, Decoded, Encoding, Level, Limited, Picture, Refusal, System, Words};
+use ferghulta::{Codes, Decoded, Encoding, Figures, Level, Limited, Meter, Picture, Refusal, System, Words};
 
 const WIDTH: usize = 1920;
 const HEIGHT: usize = 32;
@@ -116,6 +116,21 @@ fn saturated_words() -> Result<(), Refusal> {
     Ok(())
 }
 
+/// Rows of one sample, 40 of the words above and then 80 greys: the meter shows the 64 latest.
+fn metered_rows() -> Result<(), Refusal> {
+    let saturated = [1, 0, 0, 1, 0, 180, 0, 1, 0, 1, 0, 1, 0, 1, 0];
+    let grey = [1, 0, 0, 1, 0, 126, 0, 1, 0, 128, 0, 1, 0, 128, 0];
+    let mut meter = Meter::EMPTY;
+    for row in 1..=120 {
+        meter.read(if row <= 40 { &saturated } else { &grey }, &mut [0; 3])?;
+        if row % 40 == 0 {
+            let Figures { rows, low, high } = meter.figures();
+            println!("meter after {row:>3} rows: low {low} high {high} in the latest {rows}");
+        }
+    }
+    Ok(())
+}
+
 fn show<T>(call: &str, result: Result<T, Refusal>) {
     match result {
         Ok(_) => println!("{call:<32}  0  accepted"),
@@ -160,6 +175,7 @@ fn main() -> Result<(), Refusal> {
     println!("\nwords, levels and codes beyond nominal, BT.709 8 bits");
     lamps()?;
     saturated_words()?;
+    metered_rows()?;
     println!("\n{:<32} number and meaning", "refused call");
     refusals()
 }

@@ -17,8 +17,9 @@
  *   program linked with -ffast-math drops them, and a signal just below 0 would pass for 0).
  *
  * An answer has a field `refusal`: 0 where the call was accepted, else the number of the refusal. Then the answer's
- * other numbers are 0, lent memory is as it was, and a picture comes back as it was given. Compilers warn where an
- * answer is dropped: a picture that is dropped after a row gives the next row the same number, and only close tells.
+ * other numbers are 0, lent memory is as it was, and a picture or a meter comes back as it was given. Compilers warn
+ * where an answer is dropped: a picture that is dropped after a row gives the next row the same number, and only close
+ * tells; where a meter is dropped after a read, the figures lack that row, and nothing tells.
  */
 #ifndef FERGHULTA_H
 #define FERGHULTA_H
@@ -27,11 +28,11 @@
 #include <stdint.h>
 
 #define FERGHULTA_VERSION_MAJOR 5
-#define FERGHULTA_VERSION_MINOR 0
+#define FERGHULTA_VERSION_MINOR 1
 #define FERGHULTA_VERSION_PATCH 0
-#define FERGHULTA_VERSION "5.0.0"
+#define FERGHULTA_VERSION "5.1.0"
 
-/* The version as one number to compare, in #if too: 50000 is 5.0.0. CHANGELOG.md says what a version promises. */
+/* The version as one number to compare, in #if too: 50100 is 5.1.0. CHANGELOG.md says what a version promises. */
 #define FERGHULTA_VERSION_NUMBER                                                                                       \
     (10000 * FERGHULTA_VERSION_MAJOR + 100 * FERGHULTA_VERSION_MINOR + FERGHULTA_VERSION_PATCH)
 
@@ -249,6 +250,58 @@ typedef struct ferghulta_block_answer {
 FERGHULTA_MUST_USE FERGHULTA_NONNULL ferghulta_block_answer
 ferghulta_read_block(const uint8_t *__restrict bytes, size_t length, uint16_t *__restrict codes, size_t places);
 
+/* ---- Meters: low and high clipping over the 64 latest rows read, or all of them if fewer. */
+
+#define FERGHULTA_METER_ROWS 64
+
+/* A meter in 272 bytes, which the caller keeps: a read is given it and answers with the meter that the next read is to
+ * be given. Read its fields freely, and let the calls change them; what it shows, ferghulta_meter_figures gives. The
+ * counts of a row stand at the same place in `lows` and `highs`; the first row read is at place 0, and after place 63
+ * comes place 0 again. Until 64 rows were read `place` is `rows`, and the counts from there on belong to no row and may
+ * be anything. All zero is an empty meter. A value that no call gives (place above 63, rows neither 64 nor equal to
+ * place, or a sum that is not the one of the first `rows` counts) is taken as an empty meter. */
+typedef struct ferghulta_meter {
+    uint16_t lows[FERGHULTA_METER_ROWS], highs[FERGHULTA_METER_ROWS]; /* the counts of the rows that it holds */
+    uint32_t low, high;                                               /* their sums */
+    uint32_t place;                                                   /* where the next row's counts go, 0 to 63 */
+    uint32_t rows;                                                    /* how many rows it holds, 0 to 64 */
+} ferghulta_meter;
+
+typedef struct ferghulta_metered_answer {
+    ferghulta_block_answer block; /* has the refusal */
+    ferghulta_meter meter;
+} ferghulta_metered_answer;
+
+/* An empty meter. */
+FERGHULTA_MUST_USE static __inline ferghulta_meter ferghulta_empty_meter(void) {
+    const ferghulta_meter empty = {{0}, {0}, 0, 0, 0, 0};
+    return empty;
+}
+
+/* Reads a block as ferghulta_read_block does, with its answer, its codes and its refusals, and enters the row's clips
+ * in the meter; of 64 rows the earliest goes. The counts of the other rows stay where they are, and where the meter is
+ * taken as empty all counts but those at place 0 stay as they are. */
+FERGHULTA_MUST_USE FERGHULTA_NONNULL ferghulta_metered_answer
+ferghulta_read_metered(ferghulta_meter meter, const uint8_t *__restrict bytes, size_t length,
+                       uint16_t *__restrict codes, size_t places);
+
+/* The same on a meter in place, which is changed where the read is accepted. It returns the block's answer. */
+FERGHULTA_MUST_USE FERGHULTA_NONNULL static __inline ferghulta_block_answer
+ferghulta_read_metered_of(ferghulta_meter *__restrict meter, const uint8_t *__restrict bytes, size_t length,
+                          uint16_t *__restrict codes, size_t places) {
+    const ferghulta_metered_answer answer = ferghulta_read_metered(*meter, bytes, length, codes, places);
+    *meter = answer.meter;
+    return answer.block;
+}
+
+/* Low and high are over so many rows, the latest ones read: at most 64. */
+typedef struct ferghulta_figures {
+    uint32_t rows, low, high;
+} ferghulta_figures;
+
+/* What the meter shows; 0, 0 and 0 where it is taken as an empty one. No meter is refused. */
+FERGHULTA_MUST_USE ferghulta_figures ferghulta_meter_figures(ferghulta_meter meter);
+
 /* ---- Pictures. */
 
 typedef struct ferghulta_total_answer {
@@ -366,6 +419,9 @@ FERGHULTA_LAYOUT(ferghulta_clips, 4);            /* 2 + 2 */
 FERGHULTA_LAYOUT(ferghulta_decoded_answer, 16);  /* 4 + 4 + 6 + 2 */
 FERGHULTA_LAYOUT(ferghulta_level_answer, 12);    /* 4 + 8 */
 FERGHULTA_LAYOUT(ferghulta_block_answer, 16);    /* 4 + 4 + 4 + 4 */
+FERGHULTA_LAYOUT(ferghulta_meter, 272);          /* 128 + 128 + 8 + 4 + 4 */
+FERGHULTA_LAYOUT(ferghulta_metered_answer, 288); /* 16 + 272 */
+FERGHULTA_LAYOUT(ferghulta_figures, 12);         /* 4 + 4 + 4 */
 FERGHULTA_LAYOUT(ferghulta_total_answer, 8);     /* 4 + 4 */
 FERGHULTA_LAYOUT(ferghulta_picture, 12);         /* 2 + 6 + 4 */
 FERGHULTA_LAYOUT(ferghulta_picture_answer, 16);  /* 4 + 12 */

@@ -4,6 +4,7 @@ PREFIX ?= /usr/local
 LIBDIR ?= $(PREFIX)/lib
 RT ?= rt
 RUSTC ?= rustc
+NM ?= nm
 CFLAGS ?= -O2
 CXXFLAGS ?= -O2
 WARNINGS = -Wall -Wextra -Wpedantic
@@ -25,8 +26,8 @@ VERSION := $(shell sed -n 's/^.define FERGHULTA_VERSION "\(.*\)"/\1/p' $(HEADER)
 # The archive is proved from these; rt itself knows which crates are out of date.
 SOURCES := crates.txt $(shell find crates -name '*.rt' -o -name '*.antt')
 
-.PHONY: all test example example-rust check check-c check-header check-version check-docs figure bench difftest \
-        difftest-long difftest-valgrind difftest-mutants fuzz needs install-needs install uninstall absolute clean help
+.PHONY: all test example example-rust check check-c check-header check-archive check-version check-docs figure bench \
+        difftest difftest-long difftest-valgrind difftest-mutants fuzz needs install-needs install uninstall absolute clean help
 
 all: $(ARCHIVE)
 
@@ -73,7 +74,7 @@ $(BUILD):
 
 # ---- checks of the interface
 
-check: check-c check-header check-version check-docs
+check: check-c check-header check-archive check-version check-docs
 
 check-c: $(BUILD)/bench_values $(BUILD)/bench_values-c++
 	$(BUILD)/bench_values
@@ -96,6 +97,12 @@ check-header:
 	}; \
 	for std in $(C_STANDARDS); do tried $(CC) -std=$$std; done; \
 	for std in $(CXX_STANDARDS); do tried $(CXX) -std=$$std -Wold-style-cast -x c++; done
+
+# The archive calls nothing, not even memcpy.
+check-archive: $(ARCHIVE)
+	@$(NEED) c
+	@called=$$($(NM) -u $(ARCHIVE) | grep ' U '); [ -z "$$called" ] || { echo "the archive calls what it does not have:"; echo "$$called"; exit 1; }
+	@echo 'the archive calls nothing that it does not have'
 
 # Header, archive, Rust wrapper and CHANGELOG.md have one version.
 check-version: $(ARCHIVE) | $(BUILD)
@@ -169,7 +176,8 @@ help:
 	@echo 'make example-rust       the latter in Rust, which has to print the same; rows sent by several threads'
 	@echo 'make check              the interface: check-c (bench values through the header, as C and as C++),'
 	@echo '                        check-header (old and new C and C++, and mistakes that it must refuse),'
-	@echo '                        check-version, check-docs (program and figure of README.md)'
+	@echo '                        check-archive (it calls nothing else), check-version,'
+	@echo '                        check-docs (program and figure of README.md)'
 	@echo 'make figure             makes $(FIGURE) again from the answers of the library'
 	@echo 'make test               rt ci: everything proved from nothing, wrong builds refused, programs run'
 	@echo 'make bench              times (docs/BENCHMARKS.md)'

@@ -85,8 +85,8 @@ pub const METER_ROWS: usize = 64;
 #[derive(Clone, Copy, Debug, PartialEq)]
 pub struct Meter {
     pub lows: [u16; METER_ROWS],
-    pub highs: [u16; METER_ROWS],
     pub low: u32,
+    pub highs: [u16; METER_ROWS],
     pub high: u32,
     pub place: u32,
     pub rows: u32,
@@ -140,7 +140,7 @@ const _: () = assert!(offset_of!(DecodedAnswer, low) == 4 && offset_of!(DecodedA
 const _: () = assert!(offset_of!(BlockAnswer, low) == 8 && offset_of!(BlockAnswer, row) == 12);
 // Nor is one of a meter, its answer or its figures.
 const _: () = assert!(size_of::<Meter>() == 272 && size_of::<MeteredAnswer>() == 288 && size_of::<FiguresAnswer>() == 12);
-const _: () = assert!(offset_of!(Meter, highs) == 128 && offset_of!(Meter, low) == 256 && offset_of!(Meter, place) == 264);
+const _: () = assert!(offset_of!(Meter, low) == 128 && offset_of!(Meter, highs) == 132 && offset_of!(Meter, place) == 264);
 
 /// The refusal's number, or 0, and the values, or zeros.
 fn parts<T: Default>(outcome: Outcome<T>) -> (u32, T) {
@@ -283,8 +283,8 @@ impl From<exact::Figures> for FiguresAnswer {
 impl Meter {
     pub const EMPTY: Meter = Meter {
         lows: [0; METER_ROWS],
-        highs: [0; METER_ROWS],
         low: 0,
+        highs: [0; METER_ROWS],
         high: 0,
         place: 0,
         rows: 0,

@@ -289,8 +289,8 @@ fn block_of(answer: Answer<NumberedBlock>) -> Result<Block, Refusal> {
 #[must_use]
 pub struct Meter {
     lows: [u16; 64],
-    highs: [u16; 64],
     low: u32,
+    highs: [u16; 64],
     high: u32,
     place: u32,
     rows: u32,
@@ -312,7 +312,7 @@ pub struct Figures {
 }
 
 impl Meter {
-    pub const EMPTY: Meter = Meter { lows: [0; 64], highs: [0; 64], low: 0, high: 0, place: 0, rows: 0 };
+    pub const EMPTY: Meter = Meter { lows: [0; 64], low: 0, highs: [0; 64], high: 0, place: 0, rows: 0 };
 
     /// Reads a block as `read_block` does, and enters the row's clips; of 64 rows the earliest goes.
     pub fn read(&mut self, bytes: &[u8], codes: &mut [u16]) -> Result<Block, Refusal> {

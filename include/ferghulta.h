@@ -16,10 +16,11 @@
  * - The calls on signals need floating point as a C program starts with it: rounding to nearest, subnormals kept (a
  *   program linked with -ffast-math drops them, and a signal just below 0 would pass for 0).
  *
- * An answer has a field `refusal`: 0 where the call was accepted, else the number of the refusal. Then the answer's
- * other numbers are 0, lent memory is as it was, and a picture or a meter comes back as it was given. Compilers warn
- * where an answer is dropped: a picture that is dropped after a row gives the next row the same number, and only close
- * tells; where a meter is dropped after a read, the figures lack that row, and nothing tells.
+ * An answer has a field `refusal`, a metered one in its `block`: 0 where the call was accepted, else the number of the
+ * refusal. Then the answer's other numbers are 0, lent memory is as it was, and a picture or a meter comes back as it
+ * was given. Compilers warn where an answer is dropped: a picture that is dropped after a row gives the next row the
+ * same number, and only close tells; where a meter is dropped after a read, the figures lack that row, and nothing
+ * tells.
  */
 #ifndef FERGHULTA_H
 #define FERGHULTA_H
@@ -261,10 +262,12 @@ ferghulta_read_block(const uint8_t *__restrict bytes, size_t length, uint16_t *_
  * be anything. All zero is an empty meter. A value that no call gives (place above 63, rows neither 64 nor equal to
  * place, or a sum that is not the one of the first `rows` counts) is taken as an empty meter. */
 typedef struct ferghulta_meter {
-    uint16_t lows[FERGHULTA_METER_ROWS], highs[FERGHULTA_METER_ROWS]; /* the counts of the rows that it holds */
-    uint32_t low, high;                                               /* their sums */
-    uint32_t place;                                                   /* where the next row's counts go, 0 to 63 */
-    uint32_t rows;                                                    /* how many rows it holds, 0 to 64 */
+    uint16_t lows[FERGHULTA_METER_ROWS];  /* the low counts of the rows that it holds */
+    uint32_t low;                         /* their sum */
+    uint16_t highs[FERGHULTA_METER_ROWS]; /* the high counts of the same rows */
+    uint32_t high;                        /* their sum */
+    uint32_t place;                       /* where the next row's counts go, 0 to 63 */
+    uint32_t rows;                        /* how many rows it holds, 0 to 64 */
 } ferghulta_meter;
 
 typedef struct ferghulta_metered_answer {
@@ -274,7 +277,7 @@ typedef struct ferghulta_metered_answer {
 
 /* An empty meter. */
 FERGHULTA_MUST_USE static __inline ferghulta_meter ferghulta_empty_meter(void) {
-    const ferghulta_meter empty = {{0}, {0}, 0, 0, 0, 0};
+    const ferghulta_meter empty = {{0}, 0, {0}, 0, 0, 0};
     return empty;
 }
 
@@ -419,7 +422,7 @@ FERGHULTA_LAYOUT(ferghulta_clips, 4);            /* 2 + 2 */
 FERGHULTA_LAYOUT(ferghulta_decoded_answer, 16);  /* 4 + 4 + 6 + 2 */
 FERGHULTA_LAYOUT(ferghulta_level_answer, 12);    /* 4 + 8 */
 FERGHULTA_LAYOUT(ferghulta_block_answer, 16);    /* 4 + 4 + 4 + 4 */
-FERGHULTA_LAYOUT(ferghulta_meter, 272);          /* 128 + 128 + 8 + 4 + 4 */
+FERGHULTA_LAYOUT(ferghulta_meter, 272);          /* 128 + 4 + 128 + 4 + 4 + 4 */
 FERGHULTA_LAYOUT(ferghulta_metered_answer, 288); /* 16 + 272 */
 FERGHULTA_LAYOUT(ferghulta_figures, 12);         /* 4 + 4 + 4 */
 FERGHULTA_LAYOUT(ferghulta_total_answer, 8);     /* 4 + 4 */

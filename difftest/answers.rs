@@ -95,8 +95,8 @@ pub struct Meter {
 #[repr(C)]
 #[derive(Clone, Copy, Debug, PartialEq)]
 pub struct MeteredAnswer {
-    pub block: BlockAnswer,
     pub meter: Meter,
+    pub block: BlockAnswer,
 }
 
 #[repr(C)]

@@ -298,8 +298,8 @@ pub struct Meter {
 
 #[repr(C)]
 struct Metered {
-    block: Answer<NumberedBlock>,
     meter: Meter,
+    block: Answer<NumberedBlock>,
 }
 
 /// What a meter shows: low and high are over so many rows, at most 64.

@@ -271,8 +271,8 @@ typedef struct ferghulta_meter {
 } ferghulta_meter;
 
 typedef struct ferghulta_metered_answer {
+    ferghulta_meter meter;        /* which the next read is to be given */
     ferghulta_block_answer block; /* has the refusal */
-    ferghulta_meter meter;
 } ferghulta_metered_answer;
 
 /* An empty meter. */
@@ -423,7 +423,7 @@ FERGHULTA_LAYOUT(ferghulta_decoded_answer, 16);  /* 4 + 4 + 6 + 2 */
 FERGHULTA_LAYOUT(ferghulta_level_answer, 12);    /* 4 + 8 */
 FERGHULTA_LAYOUT(ferghulta_block_answer, 16);    /* 4 + 4 + 4 + 4 */
 FERGHULTA_LAYOUT(ferghulta_meter, 272);          /* 128 + 4 + 128 + 4 + 4 + 4 */
-FERGHULTA_LAYOUT(ferghulta_metered_answer, 288); /* 16 + 272 */
+FERGHULTA_LAYOUT(ferghulta_metered_answer, 288); /* 272 + 16 */
 FERGHULTA_LAYOUT(ferghulta_figures, 12);         /* 4 + 4 + 4 */
 FERGHULTA_LAYOUT(ferghulta_total_answer, 8);     /* 4 + 4 */
 FERGHULTA_LAYOUT(ferghulta_picture, 12);         /* 2 + 6 + 4 */

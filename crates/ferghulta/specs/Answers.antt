@@ -66,7 +66,7 @@ blockAnswer (refused n) = record { refusal = n; system = 0; clips = noClips; row
 
 -- request 2026-08: what reading gives, and the meter that the next call is to be given
 abbrev pub meteredAnswer : Meter → Outcome Header → MeteredAnswer
-meteredAnswer m o = record { block = blockAnswer o; meter = metering m o }
+meteredAnswer m o = record { meter = metering m o; block = blockAnswer o }
 
 -- an answer that has no other values is its refusal
 abbrev pub refusalAnswer : Outcome (Unit {0}) → ℕ

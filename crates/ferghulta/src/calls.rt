@@ -6,7 +6,7 @@ ghost use Rattle.signals.specs.Signals.{signalCodes, codeSignals};
 ghost use Rattle.matrix.specs.declared.Encoding.the-variants.{Plain, Trim};
 ghost use Rattle.matrix.specs.Triples.{wordsOfCodes, codesOfWords};
 ghost use Rattle.levels.specs.Levels.{levelOfCode, levelOfDifference, levelOutcome};
-ghost use Rattle.block.specs.Read.{headerOf, sliceAfter, headerOutcome};
+ghost use Rattle.block.specs.Read.{headerOf, sliceAfter};
 ghost use Rattle.ferghulta.specs.Answers.{codeAnswer, spanAnswer, codesAnswer, signalsAnswer, wordsAnswer, decodedAnswer, levelAnswer, blockAnswer};
 use block::BlockRead;
 use levels::CodeLevel;
@@ -231,13 +231,7 @@ pub extern "C" fn ferghulta_read_block(bytes: &[u8], codes: &mut [u16]) -> Block
     ensures { λ r. ⌜ r ≡ blockAnswer (headerOf (now (bytes .entry)) (length (now (codes .entry)))) ⌝ }
     ensures { λ r. ⌜ now (codes .exit) ≡ sliceAfter (now (bytes .entry)) (now (codes .entry)) ⌝ }
 {
-    block_answer(block::read_block(bytes, codes))
-}
-
-pub fn block_answer(read: BlockRead) -> BlockAnswer
-    ensures { λ r. ⌜ r ≡ blockAnswer (headerOutcome read) ⌝ }
-{
-    match read {
+    match block::read_block(bytes, codes) {
         BlockRead::Row(h) => {
             let system = h.system;
             let clips = h.clips;

@@ -1,18 +1,19 @@
 // The calls on a meter, which crosses as it is, whatever its bytes are. A refused read gives back the meter that it was given.
+// A metered read calls the exported reading, so that the loops over a row stand in the archive once, in line there.
 ghost use mathlib.Core.Path.{_≡_};
 ghost use lib.ListN.{length};
 ghost use Rattle.block.specs.Read.{headerOf, sliceAfter};
 ghost use Rattle.meter.specs.Meter.{figures};
 ghost use Rattle.ferghulta.specs.Answers.{meteredAnswer};
 use crate::calls::BlockAnswer;
-use crate::calls::block_answer;
+use crate::calls::ferghulta_read_block;
 use meter::Figures;
 use meter::Meter;
 
 #[repr(C)]
 pub struct MeteredAnswer {
-    pub block: BlockAnswer,
     pub meter: Meter,
+    pub block: BlockAnswer,
 }
 
 #[no_mangle]
@@ -24,12 +25,16 @@ pub extern "C" fn ferghulta_read_metered(
     ensures { λ r. ⌜ r ≡ meteredAnswer meter (headerOf (now (bytes .entry)) (length (now (codes .entry)))) ⌝ }
     ensures { λ r. ⌜ now (codes .exit) ≡ sliceAfter (now (bytes .entry)) (now (codes .entry)) ⌝ }
 {
-    let metered = meter.read(bytes, codes);
-    let read = metered.read;
-    let after = metered.meter;
+    let block = ferghulta_read_block(bytes, codes);
+    let clips = block.clips;
+    let after = if block.refusal == 0 {
+        meter.with_row(clips)
+    } else {
+        meter
+    };
     MeteredAnswer {
-        block: block_answer(read),
         meter: after,
+        block,
     }
 }
 

@@ -64,13 +64,20 @@ impl Meter {
         match read_block(bytes, codes) {
             BlockRead::Row(h) => MeteredRead {
                 read: BlockRead::Row(h),
-                meter: self.kept().entered(h.clips),
+                meter: self.with_row(h.clips),
             },
             BlockRead::Refused(r) => MeteredRead {
                 read: BlockRead::Refused(r),
                 meter: self,
             },
         }
+    }
+
+    // The meter after a reading that was accepted with these clips. Whoever has read a block by itself enters its row so.
+    pub fn with_row(self, clips: Clips) -> Meter
+        ensures { λ r. ⌜ r ≡ entered (kept self) clips ⌝ }
+    {
+        self.kept().entered(clips)
     }
 
     pub fn figures(self) -> Figures

@@ -1,5 +1,5 @@
 // The calls on a meter, which crosses as it is, whatever its bytes are. A refused read gives back the meter that it was given.
-// A metered read calls the exported reading, so that the loops over a row stand in the archive once, in line there.
+// A metered read calls the exported reading, so that block::read_block keeps one caller here and is compiled into it.
 ghost use mathlib.Core.Path.{_≡_};
 ghost use lib.ListN.{length};
 ghost use Rattle.block.specs.Read.{headerOf, sliceAfter};

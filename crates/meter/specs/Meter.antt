@@ -35,7 +35,7 @@ whole m = inTurn (m .place) (m .rows) && eqb (m .low) (total (take (m .rows) (m 
 abbrev pub kept : Meter → Meter
 kept m = cond (whole m) m (holding (m .lows) (m .highs) 0 0)
 
--- one row more: its counts take the place of those of the 65th latest
+-- one row more, at its place; where there were 64 rows, the 65th latest stood there
 abbrev pub entered : Meter → Clips → Meter
 entered m k = holding (set (m .lows) (m .place) (k .low)) (set (m .highs) (m .place) (k .high)) ((m .place + 1) % 64) (min 64 (m .rows + 1))
 

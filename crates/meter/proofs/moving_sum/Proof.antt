@@ -27,7 +27,7 @@ moves : (c : tie.Else1) → let a = c .before .args in total (take (min 64 (a .r
 moves c =
     let a = c .before .args in
     let t = turn (c .before) in
-    let e = all t (c .if1 .left) in
+    let e = all t (omega arith) in
     rw (e, c .before .pre .0, e) (sum-moves (a .t2) (a .place) (a .count) (long (c .before)) (t .below))
 
 add-result : tie.Need-add-result
@@ -46,7 +46,7 @@ returns : tie.Need-returns
 returns c =
     let a = c .before .args in
     let t = turn (c .before) in
-    let e = fewer t (c .if1 .taken) in
+    let e = fewer t (omega arith) in
     rw (c .before .pre .0, e) (sym (sum-grows (a .t2) (a .place) (a .count) (long (c .before)) (t .below)))
 
 returns-2 : tie.Need-returns-2

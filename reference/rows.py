@@ -182,6 +182,12 @@ LAST_ROW = 4319
 LISTED_BYTES = 46090
 
 
+class Stored(NamedTuple):
+    system: int
+    number: int
+    samples: list
+
+
 class Row(NamedTuple):
     system: int
     number: int
@@ -196,8 +202,8 @@ def block(system, row, words):
     return pack("<BH", system, row) + b"".join(sections)
 
 
-def read_block(given, places):
-    """The row of a block, for a lent slice with this many places."""
+def stored_row(given):
+    """The words of a block's samples, after block reading's checks up to 6: all that need no lent slice."""
     if len(given) < 3:
         return REFUSED_END
     system, number = unpack_from("<BH", given)
@@ -218,13 +224,22 @@ def read_block(given, places):
         at += 2 + 2 * count
     if len(given) > at:
         return REFUSED_AFTER
-    samples = [codes_of_words(system, words) for words in zip(*sections)]
-    if REFUSED_CODE in samples:
+    samples = list(zip(*sections))
+    if not all(are_video_data(system, words) for words in samples):
         return REFUSED_CODE
-    if places < 3 * count:
+    return Stored(system, number, samples)
+
+
+def read_block(given, places):
+    """The row of a block, for a lent slice with this many places."""
+    stored = stored_row(given)
+    if isinstance(stored, int):
+        return stored
+    if places < 3 * len(stored.samples):
         return REFUSED_OUTPUT
+    samples = [codes_of_words(stored.system, words) for words in stored.samples]
     codes = [code for sample in samples for code in sample.codes]
-    return Row(system, number, count, sums_of_clips(sample.clips for sample in samples), codes)
+    return Row(stored.system, stored.number, len(samples), sums_of_clips(sample.clips for sample in samples), codes)
 
 
 def sums_of_clips(clips):

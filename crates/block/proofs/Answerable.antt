@@ -36,7 +36,7 @@ walk-answerable bs =
     tested (leb (fieldAt bs 1) 4319) refusal.RowNumber
     (followed (sections-answerable bs) (λ w. values _))))
 
-judge-answerable : (bs : List ℕ) → Answerable (judge bs)
+pub judge-answerable : (bs : List ℕ) → Answerable (judge bs)
 unfolding judge
 judge-answerable bs = followed (walk-answerable bs) (λ b. tested (wordsOk b bs) refusal.Code (values b))
 

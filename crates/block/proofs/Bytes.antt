@@ -9,6 +9,7 @@ use lib.ListN.{length, getD, length-append}
 use lib.Seq.{getD-append-add}
 use Rattle.block.specs.Block.{field, fields, section, block}
 use Rattle.block.specs.Read.{fieldAt}
+use Rattle.block.proofs.Stored.{length-fields}
 
 -- two bytes hold a number below 65536
 field-reads-back : (n : ℕ) → n < 65536 → n % 256 + 256 * (n / 256 % 256) ≡ n
@@ -20,11 +21,6 @@ field-behind p q i j e =
     let f : i + 1 ≡ length p + (j + 1) = omega arith in
     (λ k. getD (p ++ q) (e k) 0 + 256 * getD (p ++ q) (f k) 0)
     ∙ (λ k. getD-append-add p q j 0 k + 256 * getD-append-add p q (j + 1) 0 k)
-
-length-fields : (ws : List ℕ) → length (fields ws) ≡ 2 * length ws
-unfolding fields
-length-fields [] = refl
-length-fields (w ∷ ws) = let l = length-fields ws in omega arith
 
 -- word i of a list that is followed by other bytes
 word-at : (ws q : List ℕ) (i : ℕ) → i < length ws → getD ws i 0 < 65536 → fieldAt (fields ws ++ q) (2 * i) ≡ getD ws i 0

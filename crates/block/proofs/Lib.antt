@@ -6,6 +6,7 @@ pub mod Clipping
 pub mod Reading
 pub mod Claims
 pub mod LowAndHigh
+pub mod Stored
 pub mod Bytes
 pub mod ReadBack
 pub mod Answerable

@@ -58,7 +58,7 @@ range-more r bs at i bad e =
     rw (add-one i) (none-more bad (misses r w) (within r w) (m .0) (m .1) ∙ ap (λ (t : Bool). t && within r w) e)
 
 -- two tests of three parts, part by part
-by-parts : (a b c d e f : Bool) → ((a && b && c) && (d && e && f)) ≡ ((a && d) && (b && e) && (c && f))
+pub by-parts : (a b c d e f : Bool) → ((a && b && c) && (d && e && f)) ≡ ((a && d) && (b && e) && (c && f))
 by-parts true true true d e f = refl
 by-parts true true false d e f = sym (and-false (d && e))
 by-parts true false c d e f = sym (ap (λ (t : Bool). t && (c && f)) (and-false d))

@@ -90,7 +90,7 @@ module _ (n row w : ℕ) (y : System) (ys cbs crs : List ℕ) (good : VideoRow y
     row-back : fieldAt (block n row ys cbs crs) 1 ≡ row
     row-back = fields .row-number (omega arith)
 
-    block-judged : judge (block n row ys cbs crs) ≡ accepted (record { system = y; row = row; samples = w })
+    pub block-judged : judge (block n row ys cbs crs) ≡ accepted (record { system = y; row = row; samples = w })
     unfolding judge
     block-judged =
         let narrow : w < 65536 = omega (arith, good .most) in

@@ -1,5 +1,5 @@
 -- The bytes of a row block (document 01, 'Row block'). Definitions only.
-use Prim.Native.Nat.{ℕ, _+_, _*_, _/_, _%_}
+use Prim.Native.Nat.{ℕ, zero, suc, _+_, _*_, _/_, _%_}
 use mathlib.Core.List.{List, [], _∷_, _++_}
 use lib.ListN.{length, getD}
 use Rattle.matrix.specs.declared.Words.{Words}
@@ -24,6 +24,11 @@ block n row ys cbs crs = n ∷ field row ++ section ys ++ section cbs ++ section
 -- the bytes of a row of w samples
 abbrev pub size : ℕ → ℕ
 size w = 9 + 6 * w
+
+-- f at 0, 1, .. up to n
+unfoldable pub tabulate : (ℕ → ℕ) → ℕ → List ℕ
+tabulate f zero = []
+tabulate f (suc n) = tabulate f n ++ f n ∷ []
 
 -- the words of sample i of a row
 abbrev pub sampleOf : List ℕ → List ℕ → List ℕ → ℕ → Words

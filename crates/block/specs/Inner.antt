@@ -1,11 +1,11 @@
--- Inner definitions: the steps of reading a block. Nothing here has to be believed.
+-- Inner definitions: the steps of reading a block, and a field that is stored. Nothing here has to be believed.
 -- Definitions only.
-use Prim.Native.Nat.{ℕ, zero, suc, _+_, _*_, _^_, _≤_, _<_}
+use Prim.Native.Nat.{ℕ, zero, suc, _+_, _*_, _^_, _/_, _%_, _≤_, _<_}
 use mathlib.Core.Bool.{Bool, true, false, _&&_}
 use mathlib.Core.List.{List, [], _∷_, _++_}
 use lib.Dec.{ltb}
 use lib.IntN.{ℤ, pos, natAbs, _+ℤ_, _-ℤ_}
-use lib.ListN.{length}
+use lib.ListN.{length, set}
 use Rattle.exact.specs.Outcome.{Outcome, accepted, refused}
 use Rattle.systems.specs.declared.Codes.{Codes}
 use Rattle.systems.specs.declared.Matrix.{Matrix}
@@ -87,3 +87,7 @@ clippedAll r (v ∷ vs) = clipped r (unbiased v) ∷ clippedAll r vs
 unfoldable pub beyondAll : Range → List ℕ → Clips
 beyondAll r [] = noClips
 beyondAll r (v ∷ vs) = beyond r (unbiased v) plus beyondAll r vs
+
+-- d with a field of 2 bytes at a place, low byte first
+abbrev pub put : ℕ → ℕ → List ℕ → List ℕ
+put at x d = set (set d at (x % 256)) (at + 1) (x / 256 % 256)

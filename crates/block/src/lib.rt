@@ -26,13 +26,13 @@ ghost use mathlib.Core.List.{_++_};
 ghost use Prim.Native.Nat.{_+_, _*_, _^_, _<_, _≤_};
 ghost use lib.Dec.{leb};
 ghost use lib.IntN.{natAbs};
-ghost use lib.ListN.{length, take, drop};
+ghost use lib.ListN.{length, take, drop, set};
 ghost use lib.Seq.{sets};
 ghost use Rattle.systems.specs.Systems.{scale, within};
 ghost use Rattle.matrix.specs.Triples.{clipped, beyond};
 ghost use Rattle.block.specs.Block.{size};
 ghost use Rattle.block.specs.Read.{fieldAt, sectionAt, sections, walk, sampleAt, withinTo, judge, rgb, codesTo, rowOf, header, headerOf, sliceAfter, judgedOutcome, headerOutcome};
-ghost use Rattle.block.specs.Inner.{countOutcome, inRange, Decodable, biased, unbiased, BiasFits, biasedTriple, biasedRow, triplesTo, Clippable, atLeast, atMost, clippedAll, beyondAll};
+ghost use Rattle.block.specs.Inner.{countOutcome, inRange, Decodable, biased, unbiased, BiasFits, biasedTriple, biasedRow, triplesTo, Clippable, atLeast, atMost, clippedAll, beyondAll, put};
 
 // What a block that can be read says of its row.
 pub struct Judged {
@@ -114,7 +114,7 @@ impl Judged {
 }
 
 // From the front: system, row number and sections.
-fn walk(bytes: &[u8]) -> Judgement
+pub fn walk(bytes: &[u8]) -> Judgement
     ensures { λ r. ⌜ judgedOutcome r ≡ walk (now (bytes .entry)) ⌝ }
 {
     if bytes.len() < LUMA_COUNT {
@@ -189,7 +189,7 @@ fn section_at(bytes: &[u8], at: usize, counts: Range) -> Counted
 }
 
 // The field at a place, low byte first.
-fn field_at(bytes: &[u8], at: usize) -> u16
+pub fn field_at(bytes: &[u8], at: usize) -> u16
     requires { ⌜ at + 1 < length (now bytes) ⌝ }
     ensures { λ r. ⌜ r ≡ fieldAt (now (bytes .entry)) at ⌝ }
 {
@@ -198,8 +198,24 @@ fn field_at(bytes: &[u8], at: usize) -> u16
     low + 256 * high
 }
 
+// Stores a field of two bytes, low byte first.
+pub fn put_field(at: usize, x: u16, out: &mut [u8])
+    requires { ⌜ at + 1 < length (now out) ⌝ }
+    ensures { λ r. ⌜ now (out .exit) ≡ put at x (now (out .entry)) ⌝ }
+{
+    out[at] = (x % 256) as u8;
+    out[at + 1] = (x / 256) as u8;
+}
+
+pub fn put_byte(at: usize, x: u8, out: &mut [u8])
+    requires { ⌜ at < length (now out) ⌝ }
+    ensures { λ r. ⌜ now (out .exit) ≡ set (now (out .entry)) at x ⌝ }
+{
+    out[at] = x;
+}
+
 // Whether the words of all three sections are in a range.
-fn all_in(range: Range, bytes: &[u8], samples: u16) -> bool
+pub fn all_in(range: Range, bytes: &[u8], samples: u16) -> bool
     requires { ⌜ (size samples ≤ length (now bytes)) × (samples ≤ 7680) ⌝ }
     ensures { λ r. ⌜ r ≡ withinTo range (sampleAt (now (bytes .entry)) samples) samples ⌝ }
 {

@@ -10,6 +10,7 @@ use contract.Lifetimes.{Lfts}
 use denote.Ref.{RefT, now}
 use Rattle.exact.specs.Outcome.{Outcome}
 use Rattle.exact.specs.Outcome as outcome
+use Rattle.depth.proofs.Claims as depth
 use Rattle.meter.specs.declared.Figures.{Figures}
 use Rattle.meter.specs.declared.Meter.{Meter}
 use Rattle.meter.proofs.Calls as meter
@@ -31,6 +32,7 @@ use Rattle.ferghulta.proofs.picture_calls.ferghulta_total_bytes.Reads a
 use Rattle.ferghulta.proofs.calls.ferghulta_read_block.Reads as read-call
 use Rattle.ferghulta.proofs.meter_calls.ferghulta_read_metered.Reads as read-metered-call
 use Rattle.ferghulta.proofs.meter_calls.ferghulta_meter_figures.Reads as figures-call
+use Rattle.ferghulta.proofs.depth_calls.ferghulta_change_depth.Reads as change-depth-call
 use Rattle.ferghulta.proofs.segmented_calls.ferghulta_to_segmented.Reads as to-segmented
 use Rattle.ferghulta.proofs.segmented_calls.ferghulta_to_progressive.Reads as to-progressive
 
@@ -118,7 +120,7 @@ meterCard = record {
   Shows = Shows;
 }
 
--- ---- moving rows: the refusal alone is answered
+-- ---- moving rows and changing depths: the refusal alone is answered
 
 abbrev pub outcomeIf : Bool → ℕ → Outcome (Unit {0})
 outcomeIf true n = outcome.accepted tt
@@ -130,3 +132,21 @@ outcomeBy n = outcomeIf (eqb n 0) n
 pub data Moves : Order → List ℕ → List ℕ → Outcome (Unit {0}) → List ℕ → Type 0 where
   by-to-segmented : (κs : Lfts 2) (bs out bs′ out′ : RefT (List ℕ)) (n : ℕ) → to-segmented.Post κs (bs, (out, tt)) n (bs′, (out′, tt)) → Moves Segmented (now bs) (now out) (outcomeBy n) (now out′)
   by-to-progressive : (κs : Lfts 2) (bs out bs′ out′ : RefT (List ℕ)) (n : ℕ) → to-progressive.Post κs (bs, (out, tt)) n (bs′, (out′, tt)) → Moves Progressive (now bs) (now out) (outcomeBy n) (now out′)
+
+abbrev pub depthLabelIf : Bool → BlockAnswer → Outcome depth.Label
+depthLabelIf true a = outcome.accepted (record { system = a .system; row = a .row; samples = a .samples })
+depthLabelIf false a = outcome.refused (a .refusal)
+
+abbrev pub depthLabelBy : BlockAnswer → Outcome depth.Label
+depthLabelBy a = depthLabelIf (eqb (a .refusal) 0) a
+
+pub data Changes (t : ℕ) : List ℕ → List ℕ → Outcome (Unit {0}) → List ℕ → Type 0 where
+  by-change-depth : (κs : Lfts 2) (bytes out bytes′ out′ : RefT (List ℕ)) (t′ n : ℕ) → change-depth-call.Post κs (t, (bytes, (out, tt))) n (t′, (bytes′, (out′, tt)))
+      → Changes t (now bytes) (now out) (outcomeBy n) (now out′)
+
+pub data LabelReads : List ℕ → List ℕ → Outcome depth.Label → Type 0 where
+  by-read-label : (κs : Lfts 2) (bytes slice bytes′ slice′ : RefT (List ℕ)) (a : BlockAnswer) → read-call.Post κs (bytes, (slice, tt)) a (bytes′, (slice′, tt))
+      → LabelReads (now bytes) (now slice) (depthLabelBy a)
+
+abbrev pub depthCard : depth.Card
+depthCard = record { Change = Changes; Read = LabelReads }

@@ -5,4 +5,5 @@ pub mod Histories
 pub mod Segmented
 pub mod Entering
 pub mod Metered
+pub mod Depths
 pub mod Theorem

@@ -1,4 +1,4 @@
--- The exported calls' own statements and the claims on lists of them, on metered reads and on moving rows, in one.
+-- The exported calls' own statements and the claims on lists of them, on metered reads, on changing depths and on moving rows, in one.
 -- Assumes nothing.
 use Prim.Native.Nat.{ℕ}
 use mathlib.Core.List.{List}
@@ -6,6 +6,7 @@ use Rattle.picture.specs.Book.{Call, Answer, fresh}
 use Rattle.picture.proofs.Calls.{Lent, Ran, History}
 use Rattle.picture.proofs.Claims.{Demanded, Counted}
 use Rattle.picture.proofs.Histories.{Lends, Happens, Answering, every-list-happens}
+use Rattle.depth.proofs.Claims as depth
 use Rattle.meter.proofs.Claims as meter
 use Rattle.segmented.proofs.Claims.{Claimed}
 use Rattle.ferghulta.specs.declared.stored_picture.StoredPicture.{StoredPicture}
@@ -25,15 +26,18 @@ use Rattle.ferghulta.proofs.meter_calls.ferghulta_read_metered.Statemen
 use Rattle.ferghulta.proofs.meter_calls.ferghulta_read_metered.Met as read-metered-met
 use Rattle.ferghulta.proofs.meter_calls.ferghulta_meter_figures.Statement as figures-statement
 use Rattle.ferghulta.proofs.meter_calls.ferghulta_meter_figures.Met as figures-met
+use Rattle.ferghulta.proofs.depth_calls.ferghulta_change_depth.Statement as change-depth-statement
+use Rattle.ferghulta.proofs.depth_calls.ferghulta_change_depth.Met as change-depth-met
 use Rattle.ferghulta.proofs.segmented_calls.ferghulta_to_segmented.Statement as to-segmented-statement
 use Rattle.ferghulta.proofs.segmented_calls.ferghulta_to_segmented.Met as to-segmented-met
 use Rattle.ferghulta.proofs.segmented_calls.ferghulta_to_progressive.Statement as to-progressive-statement
 use Rattle.ferghulta.proofs.segmented_calls.ferghulta_to_progressive.Met as to-progressive-met
-use Rattle.ferghulta.proofs.Card.{card, meterCard, Moves}
+use Rattle.ferghulta.proofs.Card.{card, meterCard, Moves, depthCard}
 use Rattle.ferghulta.proofs.Exported.{stateAt, demand-3, from-any, bytes-counted, bytes-from-any}
 use Rattle.ferghulta.proofs.Histories.{answering}
 use Rattle.ferghulta.proofs.Metered.{metered}
 use Rattle.ferghulta.proofs.Segmented.{moving}
+use Rattle.ferghulta.proofs.Depths.{changed}
 
 -- each `Post` of the card is that of a contract which the routine meets
 pub record Theorem : Type 3 where
@@ -60,6 +64,9 @@ pub record Theorem : Type 3 where
   pub segments : {M : Type 1} → to-segmented-statement.statement M
   pub restores : {M : Type 1} → to-progressive-statement.statement M
   pub moves : Claimed Moves
+  -- request 2026-09
+  pub changes : {M : Type 1} → change-depth-statement.statement M
+  pub depths : depth.Claimed depthCard
 
 pub theorem : Theorem
 theorem = record {
@@ -81,4 +88,6 @@ theorem = record {
   segments = to-segmented-met.met;
   restores = to-progressive-met.met;
   moves = moving;
+  changes = change-depth-met.met;
+  depths = changed;
 }

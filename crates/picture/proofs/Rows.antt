@@ -23,12 +23,12 @@ use Rattle.matrix.specs.Triples.{codesAt, wordsWithin}
 use Rattle.matrix.proofs.Nominal.{words-nominal, word-near, no-timing-code}
 use Rattle.matrix.proofs.Return.{codes-return-within-one}
 use Rattle.block.specs.declared.Header.{Header}
-use Rattle.block.specs.Block.{sampleOf}
+use Rattle.block.specs.Block.{sampleOf, tabulate}
 use Rattle.block.specs.Read.{sampleAt, decoded, codesTo, clipsTo, headerOf, sliceAfter}
 use Rattle.block.proofs.Decoding.{length-codes}
+use Rattle.block.proofs.Stored.{length-tabulate, tabulate-at}
 use Rattle.block.proofs.ReadBack.{VideoRow, block-samples, block-reads-back, block-decodes-back}
-use Rattle.row.specs.Row.{sampleCodes, sampleWords, tabulate, rowBlock}
-use Rattle.row.proofs.Sections.{length-tabulate}
+use Rattle.row.specs.Row.{sampleCodes, sampleWords, rowBlock}
 use Rattle.row.proofs.Samples.{lights-nominal}
 use Rattle.row.proofs.Written.{length-row-block}
 use Rattle.picture.proofs.Calls.{Card, Lights}
@@ -36,20 +36,6 @@ use Rattle.picture.proofs.Card.{labelOf}
 use Rattle.picture.proofs.Claims.{WithinOne, ReadCode, StoredSample, codesOf, ReadsBack}
 use Rattle.picture.proofs.Faithful.{Faithful}
 use Rattle.picture.proofs.Neighbours.{from-below, to-above}
-
--- ---- lists
-
-tabulate-at : (f : ℕ → ℕ) (n i : ℕ) → i < n → getD (tabulate f n) i 0 ≡ f i
-unfolding tabulate
-tabulate-at f zero i h = absurd (omega arith)
-tabulate-at f (suc n) i h = go (tabulate-at f n i) (below-or-not i n)
-  where
-    go : (i < n → getD (tabulate f n) i 0 ≡ f i) → (i < n) ⊎ (n ≤ i) → getD (tabulate f n ++ f n ∷ []) i 0 ≡ f i
-    go before (inl l) = List·getD-append (tabulate f n) (f n ∷ []) 0 i (omega (arith, length-tabulate f n)) ∙ before l
-    go before (inr l) =
-        let e : i ≡ length (tabulate f n) + 0 = omega (arith, length-tabulate f n) in
-        let same : n ≡ i = omega arith in
-        ap (λ (j : ℕ). getD (tabulate f n ++ f n ∷ []) j 0) e ∙ getD-append-add (tabulate f n) (f n ∷ []) 0 0 ∙ ap f same
 
 -- what holds of each sample's three codes at their places holds of every code of a row
 module _ (row : ℕ → Clipped) (P : ℕ → ℕ → Type 0) where

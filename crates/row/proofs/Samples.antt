@@ -13,7 +13,8 @@ use Rattle.curve.specs.Curve.{code}
 use Rattle.curve.proofs.Lights.{code-low, code-high}
 use Rattle.matrix.specs.declared.Words.{Words}
 use Rattle.matrix.specs.Inner.{NominalCodes}
-use Rattle.row.specs.Inner.{put, headed, worded, stored}
+use Rattle.block.specs.Inner.{put}
+use Rattle.row.specs.Inner.{headed, worded, stored}
 
 -- the codes of three lights are nominal
 pub lights-nominal : (y : System) (j k l : ℕ) {c : Codes} → c ≡ record { r = code y j; g = code y k; b = code y l } → NominalCodes (scale y) c

@@ -1,56 +1,13 @@
--- The words of a section, and a field stored into a list at its place.
+-- The words of a section as they are stored over other bytes.
 -- Assumes nothing.
-use mathlib.Core.Path.{_≡_, refl, sym, ap, _∙_}
+use mathlib.Core.Path.{_≡_, sym, ap, _∙_}
 use mathlib.Core.List.{List, [], _∷_, _++_, append-assoc, append-nil}
-use Prim.Native.Nat.{ℕ, zero, suc, _+_, _*_, _/_, _%_, _≤_, _<_}
+use Prim.Native.Nat.{ℕ, suc, _+_, _*_, _≤_, _<_}
 use native.Mathlib.Omega.{arith}
-use lib.ListN.{length, set, getD, take, drop, length-append, length-drop, take-append-drop, drop-of-length-le}
-use lib.Seq.{set-at, drop-drop, drop-cons}
-use Rattle.block.specs.Block.{field, fields}
-use Rattle.row.specs.Row.{tabulate}
-use Rattle.row.specs.Inner.{put}
-
--- ---- the words
-
-pub length-tabulate : (f : ℕ → ℕ) (n : ℕ) → length (tabulate f n) ≡ n
-unfolding tabulate
-length-tabulate f zero = refl
-length-tabulate f (suc n) = simp length-append (omega (arith, length-tabulate f n))
-
-fields-append : (a b : List ℕ) → fields (a ++ b) ≡ fields a ++ fields b
-unfolding fields
-fields-append [] b = refl
-fields-append (x ∷ a) b = ap (λ (l : List ℕ). field x ++ l) (fields-append a b)
-
-length-fields : (a : List ℕ) → length (fields a) ≡ 2 * length a
-unfolding fields
-length-fields [] = refl
-length-fields (x ∷ a) = omega (arith, length-fields a)
-
--- ---- a list cut at a place
-
-pub gap-at : (n m k : ℕ) (d : List ℕ) → n + m ≡ k → drop n d ≡ take m (drop n d) ++ drop k d
-gap-at n m k d e =
-    sym (take-append-drop m (drop n d)) ∙ ap (λ (l : List ℕ). take m (drop n d) ++ l) (drop-drop m n d ∙ ap (λ (j : ℕ). drop j d) e)
-
-pub pair-at : (n k : ℕ) (d : List ℕ) → n + 2 ≡ k → k ≤ length d → drop n d ≡ getD d n 0 ∷ getD d (suc n) 0 ∷ drop k d
-pair-at n k d e h =
-    let last : suc (suc n) ≡ k = omega arith in
-    let first-in : n < length d = omega arith in
-    let second-in : suc n < length d = omega arith in
-    drop-cons d n 0 first-in
-    ∙ ap (λ (l : List ℕ). getD d n 0 ∷ l) (drop-cons d (suc n) 0 second-in ∙ ap (λ (j : ℕ). getD d (suc n) 0 ∷ drop j d) last)
-
--- ---- stores
-
--- a field stored over two bytes
-pub put-at : (p q : List ℕ) (a b x n : ℕ) → length p ≡ n → put n x (p ++ a ∷ b ∷ q) ≡ p ++ (field x ++ q)
-put-at p q a b x n e =
-    let low : List ℕ = x % 256 ∷ [] in
-    let longer : length (p ++ low) ≡ n + 1 = simp length-append (omega arith) in
-    ap (λ (l : List ℕ). set l (n + 1) (x / 256 % 256)) (set-at p a (b ∷ q) (x % 256) n e ∙ sym (append-assoc p low (b ∷ q)))
-    ∙ set-at (p ++ low) b q (x / 256 % 256) (n + 1) longer
-    ∙ append-assoc p low (x / 256 % 256 ∷ q)
+use lib.ListN.{length, getD, drop, length-append, length-drop, drop-of-length-le}
+use Rattle.block.specs.Block.{field, fields, tabulate}
+use Rattle.block.specs.Inner.{put}
+use Rattle.block.proofs.Stored.{length-tabulate, fields-append, length-fields, pair-at, put-at}
 
 -- b joins a, behind p
 join-left : (p a b c q : List ℕ) → p ++ a ++ (b ++ (c ++ q)) ≡ p ++ (a ++ b ++ c ++ q)

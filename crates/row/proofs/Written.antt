@@ -10,11 +10,13 @@ use lib.Seq.{length-take-le, drop-cons}
 use Rattle.systems.specs.declared.System.{System}
 use Rattle.systems.specs.Systems.{number}
 use Rattle.matrix.specs.declared.Words.{Words}
-use Rattle.block.specs.Block.{field, fields, section, block}
+use Rattle.block.specs.Block.{field, fields, section, block, tabulate}
+use Rattle.block.specs.Inner.{put}
+use Rattle.block.proofs.Stored.{length-tabulate, gap-at, pair-at, put-at}
 use Rattle.block.proofs.Bytes.{block-fields}
-use Rattle.row.specs.Row.{tabulate, sampleWords, rowBlock}
-use Rattle.row.specs.Inner.{put, headed, worded, stored}
-use Rattle.row.proofs.Sections.{length-tabulate, part, part-all, part-more, length-part, gap-at, pair-at, put-at}
+use Rattle.row.specs.Row.{sampleWords, rowBlock}
+use Rattle.row.specs.Inner.{headed, worded, stored}
+use Rattle.row.proofs.Sections.{part, part-all, part-more, length-part}
 
 -- what stands behind three lists, and behind five
 behind-3 : (a b c q : List ℕ) → a ++ b ++ c ++ q ≡ a ++ (b ++ (c ++ q))

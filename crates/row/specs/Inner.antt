@@ -3,18 +3,15 @@
 -- Definitions only.
 use mathlib.Core.Path.{_≡_}
 use mathlib.Core.List.{List}
-use Prim.Native.Nat.{ℕ, zero, suc, _+_, _*_, _/_, _%_, _≤_}
+use Prim.Native.Nat.{ℕ, zero, suc, _+_, _*_, _≤_}
 use lib.ListN.{length, set}
 use Rattle.matrix.specs.declared.Words.{Words}
 use Rattle.block.specs.Block.{size}
+use Rattle.block.specs.Inner.{put}
 
 -- the lights of w samples, and room for their block
 abbrev pub RowFits : ℕ → List ℕ → List ℕ → Type 0
 RowFits w lights out = (length lights ≡ 3 * w) × (size w ≤ length out)
-
--- d with a field of 2 bytes at a place, low byte first
-abbrev pub put : ℕ → ℕ → List ℕ → List ℕ
-put at x d = set (set d at (x % 256)) (at + 1) (x / 256 % 256)
 
 -- d with the system n, the row number and the three counts of w samples
 unfoldable pub headed : ℕ → ℕ → ℕ → List ℕ → List ℕ

@@ -1,6 +1,6 @@
 -- The row block that is made from a row of lights (document 01, 'Picture': R, G, B for each sample). Definitions only.
-use Prim.Native.Nat.{ℕ, zero, suc, _+_, _*_}
-use mathlib.Core.List.{List, [], _∷_, _++_}
+use Prim.Native.Nat.{ℕ, _+_, _*_}
+use mathlib.Core.List.{List}
 use lib.ListN.{getD}
 use Rattle.systems.specs.declared.Codes.{Codes}
 use Rattle.systems.specs.declared.System.{System}
@@ -8,7 +8,7 @@ use Rattle.systems.specs.Systems.{number, matrix, scale}
 use Rattle.curve.specs.Curve.{code}
 use Rattle.matrix.specs.declared.Words.{Words}
 use Rattle.matrix.specs.Triples.{wordsAt}
-use Rattle.block.specs.Block.{block}
+use Rattle.block.specs.Block.{tabulate, block}
 
 -- the codes of sample i's three lights
 abbrev pub sampleCodes : System → List ℕ → ℕ → Codes
@@ -17,11 +17,6 @@ sampleCodes y lights i = record { r = code y (getD lights (3 * i) 0); g = code y
 -- the words of sample i
 unfoldable pub sampleWords : System → List ℕ → ℕ → Words
 sampleWords y lights i = wordsAt (matrix y) (scale y) (sampleCodes y lights i)
-
--- f at 0, 1, .. up to n
-unfoldable pub tabulate : (ℕ → ℕ) → ℕ → List ℕ
-tabulate f zero = []
-tabulate f (suc n) = tabulate f n ++ f n ∷ []
 
 -- the block of a row of w samples
 unfoldable pub rowBlock : System → ℕ → ℕ → List ℕ → List ℕ

@@ -7,6 +7,8 @@ use block::cb_word;
 use block::cr_count;
 use block::cr_word;
 use block::luma_word;
+use block::put_byte;
+use block::put_field;
 use curve::code_in;
 use matrix::Words;
 use matrix::words_in;
@@ -15,13 +17,13 @@ use systems::System;
 ghost use mathlib.Core.Path.{_≡_};
 ghost use mathlib.Core.List.{_++_};
 ghost use Prim.Native.Nat.{_+_, _*_, _<_, _≤_};
-ghost use lib.ListN.{length, drop, set};
+ghost use lib.ListN.{length, drop};
 ghost use Rattle.systems.specs.Systems.{number};
 ghost use Rattle.curve.specs.Inner.{ReadyFor};
 ghost use Rattle.matrix.specs.Inner.{triple};
 ghost use Rattle.block.specs.Block.{size};
 ghost use Rattle.row.specs.Row.{sampleCodes, sampleWords, rowBlock};
-ghost use Rattle.row.specs.Inner.{RowFits, put, headed, worded, stored};
+ghost use Rattle.row.specs.Inner.{RowFits, headed, worded, stored};
 
 // One row block to the front of `out`; later bytes stay. The system's table is made once for the row.
 pub fn write_row(y: System, row: u16, width: u16, lights: &[u16], out: &mut [u8])
@@ -129,20 +131,4 @@ fn put_words(width: usize, i: usize, words: Words, out: &mut [u8])
     put_field(luma_word(i), words.y, out);
     put_field(cb_word(width, i), words.cb, out);
     put_field(cr_word(width, i), words.cr, out);
-}
-
-// A field of two bytes, low byte first.
-fn put_field(at: usize, x: u16, out: &mut [u8])
-    requires { ⌜ at + 1 < length (now out) ⌝ }
-    ensures { λ r. ⌜ now (out .exit) ≡ put at x (now (out .entry)) ⌝ }
-{
-    out[at] = (x % 256) as u8;
-    out[at + 1] = (x / 256) as u8;
-}
-
-fn put_byte(at: usize, x: u8, out: &mut [u8])
-    requires { ⌜ at < length (now out) ⌝ }
-    ensures { λ r. ⌜ now (out .exit) ≡ set (now (out .entry)) at x ⌝ }
-{
-    out[at] = x;
 }

@@ -54,3 +54,5 @@ never-0 refusal.NotOpen = refl
 never-0 refusal.AllRows = refl
 never-0 refusal.RowsMissing = refl
 never-0 refusal.Length = refl
+never-0 refusal.Target = refl
+never-0 refusal.Timing = refl

@@ -5,7 +5,8 @@ use mathlib.Core.Path.{_≡_, refl, ap, _∙_}
 use mathlib.Core.Bool.{Bool, true, false}
 use mathlib.Core.List.{List, [], _∷_}
 use native.Mathlib.Omega.{arith}
-use borrow.Author.Tests.{ne-eqb}
+use lib.Dec.{eqb}
+use borrow.Author.Tests.{eqb-true, ne-eqb}
 use Rattle.exact.specs.Outcome.{Outcome, accepted, refused}
 use Rattle.systems.specs.declared.System.{System}
 use Rattle.systems.specs.declared.System.the-variants.{Bt709Bits8, Bt709Bits10, Bt2020Bits10, Bt2020Bits12}
@@ -43,6 +44,18 @@ named-number Bt709Bits8 = refl
 named-number Bt709Bits10 = refl
 named-number Bt2020Bits10 = refl
 named-number Bt2020Bits12 = refl
+
+-- and no other number does
+number-among : (ys : List System) (n : ℕ) (y : System) → namedIn ys n ≡ accepted y → n ≡ number y
+number-among [] n y e = let z : _≡_ {A = ℕ} 0 1 = cc in absurd (omega arith)
+number-among (x ∷ xs) n y e = found (eqb n (number x)) refl e (number-among xs n y)
+  where
+    found : (t : Bool) → eqb n (number x) ≡ t → elim t [ true ↦ accepted x | false ↦ namedIn xs n ] ≡ accepted y → (namedIn xs n ≡ accepted y → n ≡ number y) → n ≡ number y
+    found true f g later = let same : x ≡ y = cc in eqb-true n (number x) f ∙ ap number same
+    found false f g later = later g
+
+pub only-its-number : (n : ℕ) (y : System) → named n ≡ accepted y → n ≡ number y
+only-its-number = number-among (Bt709Bits8 ∷ Bt709Bits10 ∷ Bt2020Bits10 ∷ Bt2020Bits12 ∷ [])
 
 -- a number that no system has is refused
 pub unnamed : (n : ℕ) → (n ≡ 1 → ⊥) → (n ≡ 2 → ⊥) → (n ≡ 3 → ⊥) → (n ≡ 4 → ⊥) → named n ≡ refused 1

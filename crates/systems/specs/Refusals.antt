@@ -2,7 +2,7 @@
 -- Definitions only.
 use Prim.Native.Nat.{ℕ}
 use Rattle.systems.specs.declared.refusal.Refusal.{Refusal}
-use Rattle.systems.specs.declared.refusal.Refusal.the-variants.{System, Width, Height, Lights, Output, Code, Signal, BlockEnd, Count, RowNumber, BytesAfter, AlreadyOpen, NotOpen, AllRows, RowsMissing, Length}
+use Rattle.systems.specs.declared.refusal.Refusal.the-variants.{System, Width, Height, Lights, Output, Code, Signal, BlockEnd, Count, RowNumber, BytesAfter, AlreadyOpen, NotOpen, AllRows, RowsMissing, Length, Target, Timing}
 
 abbrev pub refusal : Refusal → ℕ
 refusal System = 1
@@ -21,3 +21,5 @@ refusal NotOpen = 22
 refusal AllRows = 23
 refusal RowsMissing = 24
 refusal Length = 31
+refusal Target = 32
+refusal Timing = 33

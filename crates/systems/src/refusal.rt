@@ -35,6 +35,10 @@ pub enum Refusal {
     RowsMissing,
     // 31 (request 2026-01): a buffer's length 0, no multiple of 1080, or unlike the other's.
     Length,
+    // 32 (request 2026-09): target system equal to the block's, or of the other Recommendation.
+    Target,
+    // 33 (request 2026-09): word of the result in the timing codes.
+    Timing,
 }
 
 impl Refusal {
@@ -58,6 +62,8 @@ impl Refusal {
             Refusal::AllRows => 23,
             Refusal::RowsMissing => 24,
             Refusal::Length => 31,
+            Refusal::Target => 32,
+            Refusal::Timing => 33,
         }
     }
 }

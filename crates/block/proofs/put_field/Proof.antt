@@ -3,8 +3,8 @@ use Prim.Native.Nat.{ℕ, _+_, _/_, _%_}
 use native.Mathlib.Omega.{arith}
 use lib.ListN.{set}
 use borrow.Author.Needs.{needs}
-use Rattle.row.proofs.put_field.Statement.{statement}
-use Rattle.row.proofs.put_field.Tie as tie
+use Rattle.block.proofs.put_field.Statement.{statement}
+use Rattle.block.proofs.put_field.Tie as tie
 
 returns : tie.Need-returns
 returns c =

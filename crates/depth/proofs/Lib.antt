@@ -1,0 +1,12 @@
+pub mod Words
+pub mod Claims
+pub mod Passing
+pub mod Front
+pub mod Changing
+pub mod NewBlock
+pub mod Blocks
+pub mod BothWays
+pub mod Numbers
+pub mod Card
+pub mod Faithful
+pub mod Theorem

@@ -1,0 +1,2 @@
+pub mod Depth
+pub mod Inner

@@ -239,9 +239,10 @@ static uint8_t *put(uint8_t *at, unsigned word) {
     return at;
 }
 
-/* A block of system 1, whose samples are these words again and again. */
-static void fill_block(uint8_t *block, unsigned samples, const ferghulta_words *words, unsigned count) {
-    *block = 1;
+/* A block of row 0, whose samples are these words again and again. */
+static void fill_block_of(uint8_t system, uint8_t *block, unsigned samples, const ferghulta_words *words,
+                          unsigned count) {
+    *block = system;
     uint8_t *at = put(block + 1, 0);
     for (int section = 0; section < 3; section++) {
         at = put(at, samples);
@@ -250,6 +251,10 @@ static void fill_block(uint8_t *block, unsigned samples, const ferghulta_words *
             at = put(at, section == 0 ? w.y : section == 1 ? w.cb : w.cr);
         }
     }
+}
+
+static void fill_block(uint8_t *block, unsigned samples, const ferghulta_words *words, unsigned count) {
+    fill_block_of(FERGHULTA_BT709_8, block, samples, words, count);
 }
 
 /* Three samples, with two low and one high, one low and two high, and as the first; then the first in the widest row,
@@ -426,12 +431,90 @@ static void segments(void) {
     expect("1079 rows", ferghulta_to_progressive(segmented[0], 1079, back[0], 1079), 31);
 }
 
+/* A sample of one system in the other depth of its Recommendation; the byte behind the block stays. */
+static void expect_depth(uint8_t system, ferghulta_words words, uint8_t target, ferghulta_words wanted) {
+    enum { BYTES = FERGHULTA_BLOCK_BYTES(1) };
+    uint8_t block[BYTES], wanted_block[BYTES + 1], out[BYTES + 1] = {0};
+    fill_block_of(system, block, 1, &words, 1);
+    fill_block_of(target, wanted_block, 1, &wanted, 1);
+    wanted_block[BYTES] = out[BYTES] = 9;
+    expect("depth changed", ferghulta_change_depth(target, block, BYTES, out, BYTES + 1), 0);
+    expect("block of the other depth", memcmp(out, wanted_block, BYTES + 1) == 0, 1);
+}
+
+/* The same, refused: the buffer, which is as long as the block, stays. */
+static void expect_no_depth(uint8_t system, ferghulta_words words, uint32_t target, uint32_t refusal) {
+    uint8_t block[FERGHULTA_BLOCK_BYTES(1)], out[FERGHULTA_BLOCK_BYTES(1)] = {0};
+    static const uint8_t blank[sizeof out] = {0};
+    fill_block_of(system, block, 1, &words, 1);
+    expect("depth refused", ferghulta_change_depth(target, block, sizeof block, out, sizeof out), refusal);
+    expect("buffer of a refused change", memcmp(out, blank, sizeof out) == 0, 1);
+}
+
+/* The ends of video data, halves, and the words from which on a result would be a timing code, in each section. */
+static void depths(void) {
+    const ferghulta_words eight = {1, 128, 254}, ten = {4, 512, 1016}, twelve = {16, 2048, 4064};
+    expect_depth(1, eight, 2, ten);
+    expect_depth(2, ten, 1, eight);
+    expect_depth(3, ten, 4, twelve);
+    expect_depth(4, twelve, 3, ten);
+    const ferghulta_words last_ten = {1017, 513, 514}, last_eight = {254, 128, 129};
+    const ferghulta_words last_twelve = {4077, 2049, 2050}, last_of_twelve = {1019, 512, 513};
+    expect_depth(2, last_ten, 1, last_eight);
+    expect_depth(4, last_twelve, 3, last_of_twelve);
+    const ferghulta_words timing_of_ten[3] = {{1018, 512, 512}, {512, 1018, 512}, {512, 512, 1019}};
+    const ferghulta_words timing_of_twelve[3] = {{4078, 2048, 2048}, {2048, 4078, 2048}, {2048, 2048, 4079}};
+    for (int section = 0; section < 3; section++) {
+        expect_no_depth(2, timing_of_ten[section], 1, FERGHULTA_REFUSED_TIMING);
+        expect_no_depth(4, timing_of_twelve[section], 3, FERGHULTA_REFUSED_TIMING);
+    }
+    for (uint8_t system = 1; system <= 4; system++)
+        for (uint8_t target = 1; target <= 4; target++)
+            if (system == target || (system <= 2) != (target <= 2)) {
+                const uint16_t grey = (uint16_t)(128 * scales[system - 1]);
+                const ferghulta_words words = {grey, grey, grey};
+                expect_no_depth(system, words, target, FERGHULTA_REFUSED_TARGET);
+            }
+}
+
+/* Each with the condition of the next one. */
+static void refused_depths(void) {
+    const ferghulta_words beyond = {1020, 512, 512}, timing = {1019, 512, 512};
+    uint8_t block[FERGHULTA_BLOCK_BYTES(1)] = {0}, out[FERGHULTA_BLOCK_BYTES(1)];
+    expect("no target", ferghulta_change_depth(5, block, 0, out, 0), FERGHULTA_REFUSED_SYSTEM);
+    expect("no bytes", ferghulta_change_depth(1, block, 0, out, 0), FERGHULTA_REFUSED_BLOCK_END);
+    expect("no system", ferghulta_change_depth(1, block, 15, out, 0), FERGHULTA_REFUSED_SYSTEM);
+    fill_block_of(2, block, 1, &beyond, 1);
+    expect("a timing code", ferghulta_change_depth(2, block, 15, out, 0), FERGHULTA_REFUSED_CODE);
+    fill_block_of(2, block, 1, &timing, 1);
+    expect("the other Recommendation", ferghulta_change_depth(3, block, 15, out, 0), FERGHULTA_REFUSED_TARGET);
+    expect("a timing code made", ferghulta_change_depth(1, block, 15, out, 0), FERGHULTA_REFUSED_TIMING);
+    block[5] = 0;
+    expect("a byte short", ferghulta_change_depth(1, block, 15, out, 14), FERGHULTA_REFUSED_OUTPUT);
+    expect("room enough", ferghulta_change_depth(1, block, 15, out, 15), 0);
+}
+
+/* Every word of video data of a system, up and down. */
+static void up_and_down(uint8_t system, uint8_t target) {
+    static uint8_t block[FERGHULTA_BLOCK_BYTES(WIDEST)], up[sizeof block], down[sizeof block];
+    static ferghulta_words words[254 * 4];
+    const unsigned s = scales[system - 1], count = 254 * s;
+    for (unsigned j = 0; j < count; j++) {
+        const uint16_t word = (uint16_t)(s + j);
+        words[j].y = words[j].cb = words[j].cr = word;
+    }
+    fill_block_of(system, block, WIDEST, words, count);
+    expect("up", ferghulta_change_depth(target, block, sizeof block, up, sizeof up), 0);
+    expect("down", ferghulta_change_depth(system, up, sizeof up, down, sizeof down), 0);
+    expect("the first bytes", memcmp(block, down, sizeof block) == 0, 1);
+}
+
 /* Each number of the list has words of its own, and no other number has words of the list. */
 static void refusal_texts(void) {
     unsigned listed = 0;
     for (uint32_t number = 1; number < 256; number++)
         listed += strcmp(ferghulta_refusal_text(number), ferghulta_refusal_text(256)) != 0;
-    expect("refusals with words", listed, 16);
+    expect("refusals with words", listed, 18);
     expect("accepted in words", strcmp(ferghulta_refusal_text(FERGHULTA_ACCEPTED), "accepted") == 0, 1);
 }
 
@@ -460,6 +543,10 @@ int main(void) {
     widest_metered_rows();
     rows_in_any_order();
     segments();
+    depths();
+    refused_depths();
+    up_and_down(1, 2);
+    up_and_down(3, 4);
     refusal_texts();
     version();
     printf("bench values: %u tried, %u wrong\n", tried, wrong);

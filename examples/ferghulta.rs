@@ -4,8 +4,8 @@
 
 use core::fmt;
 
-/// The version of the header that this file follows, as one number: 50100 is 5.1.0.
-pub const VERSION: u32 = 50100;
+/// The version of the header that this file follows, as one number: 50200 is 5.2.0.
+pub const VERSION: u32 = 50200;
 
 /// The version of the archive that the program is linked with.
 #[must_use]
@@ -43,9 +43,11 @@ pub enum Refusal {
     AllRows = 23,
     RowsMissing = 24,
     Length = 31,
+    Target = 32,
+    Timing = 33,
 }
 
-const REFUSALS: [(Refusal, &str); 16] = [
+const REFUSALS: [(Refusal, &str); 18] = [
     (Refusal::System, "system not 1 to 4"),
     (Refusal::Width, "width not 1 to 7680"),
     (Refusal::Height, "height not 1 to 4320"),
@@ -62,6 +64,8 @@ const REFUSALS: [(Refusal, &str); 16] = [
     (Refusal::AllRows, "row when all rows are accepted"),
     (Refusal::RowsMissing, "close with rows missing"),
     (Refusal::Length, "buffer length 0, no multiple of 1080, or unlike the other's"),
+    (Refusal::Target, "target system equal to the block's, or of the other Recommendation"),
+    (Refusal::Timing, "word of the result in the timing codes"),
 ];
 
 impl Refusal {
@@ -219,6 +223,7 @@ unsafe extern "C" {
     safe fn ferghulta_meter_figures(meter: Meter) -> Figures;
     fn ferghulta_to_segmented(progressive: *const u8, length: usize, segmented: *mut u8, room: usize) -> u32;
     fn ferghulta_to_progressive(segmented: *const u8, length: usize, progressive: *mut u8, room: usize) -> u32;
+    fn ferghulta_change_depth(target: System, block: *const u8, length: usize, out: *mut u8, room: usize) -> u32;
 }
 
 impl System {
@@ -342,6 +347,15 @@ pub fn to_progressive(segmented: &[u8], progressive: &mut [u8]) -> Result<(), Re
     let (from, to) = (segmented, progressive);
     // SAFETY: as above.
     let refusal = unsafe { ferghulta_to_progressive(from.as_ptr(), from.len(), to.as_mut_ptr(), to.len()) };
+    Answer { refusal, values: () }.result()
+}
+
+/// Writes the block of the other depth, which is `target`'s, to the front of `out`; it is as long as the given one.
+/// Upward and then downward gives the first block back.
+pub fn change_depth(target: System, block: &[u8], out: &mut [u8]) -> Result<(), Refusal> {
+    // SAFETY: both slices are lent for the call with their own lengths, and a slice's pointer is never null.
+    let refusal =
+        unsafe { ferghulta_change_depth(target, block.as_ptr(), block.len(), out.as_mut_ptr(), out.len()) };
     Answer { refusal, values: () }.result()
 }
 

@@ -16,6 +16,7 @@ uint32_t block_read(void);
 ferghulta_meter metered(ferghulta_meter meter);
 uint32_t metered_of(ferghulta_meter *meter);
 uint32_t segmented(void);
+uint32_t deepened(void);
 
 ferghulta_picture sent(ferghulta_picture picture) {
 #if MISUSE == 2
@@ -75,4 +76,13 @@ uint32_t segmented(void) {
     ferghulta_to_segmented(rows[0], sizeof rows[0], rows[1], sizeof rows[1]); /* the refusal is dropped */
 #endif
     return ferghulta_to_progressive(rows[1], sizeof rows[1], rows[0], sizeof rows[0]);
+}
+
+uint32_t deepened(void) {
+#if MISUSE == 11
+    ferghulta_change_depth(2, bytes, sizeof bytes, rows[0], sizeof rows[0]); /* the refusal is dropped */
+#elif MISUSE == 12
+    if (ferghulta_change_depth(2, bytes, sizeof bytes, 0, 0)) return 1; /* null with a count of 0 */
+#endif
+    return ferghulta_change_depth(2, bytes, sizeof bytes, rows[0], sizeof rows[0]);
 }

@@ -1,6 +1,6 @@
 /* In each system a picture is sent, rows of a ramp and of random light in turn, and read back. Then a picture in
- * segmented-frame order, words beyond nominal, a meter, and some calls that are refused. `make example` builds and runs
- * it; examples/ramp.rs is the same program in Rust. */
+ * segmented-frame order, a row in another depth, words beyond nominal, a meter, and some calls that are refused.
+ * `make example` builds and runs it; examples/ramp.rs is the same program in Rust. */
 #include <stdio.h>
 #include <stdlib.h>
 #include <string.h>
@@ -98,6 +98,23 @@ static void segmented_order(void) {
     printf("\nback in progressive order: %s\n", memcmp(sent, back, sizeof sent) == 0 ? "as sent" : "not as sent");
 }
 
+static unsigned first_word(const uint8_t *bytes) {
+    return bytes[5] + 256u * bytes[6]; /* after system, row number and count */
+}
+
+/* A row of 8 bits in 10 bits, and back. */
+static void other_depth(void) {
+    static uint8_t wider[sizeof block], back[sizeof block];
+    ferghulta_picture picture = ferghulta_new();
+    must_accept(ferghulta_open_of(&picture, FERGHULTA_BT709_8, WIDTH, 1));
+    ramp(0);
+    must_accept(ferghulta_row_of(&picture, lights, LIGHTS, block, sizeof block));
+    must_accept(ferghulta_change_depth(FERGHULTA_BT709_10, block, sizeof block, wider, sizeof wider));
+    must_accept(ferghulta_change_depth(FERGHULTA_BT709_8, wider, sizeof wider, back, sizeof back));
+    printf("\nfirst word in 8 bits %u, in 10 bits %u\n", first_word(block), first_word(wider));
+    printf("back in 8 bits: %s\n", memcmp(block, back, sizeof block) == 0 ? "as sent" : "not as sent");
+}
+
 static void show_words(const char *lamp, const char *encoding, ferghulta_words_answer answer) {
     must_accept(answer.refusal);
     printf("%-16s %-8s %3u %3u %3u, moved %u\n", lamp, encoding, (unsigned)answer.words.y, (unsigned)answer.words.cb,
@@ -157,6 +174,9 @@ static void show(const char *call, uint32_t refusal) {
 
 /* A refused call changes nothing: the picture goes on as it was. */
 static void refusals(void) {
+    static const uint8_t bright[] = {2, 0, 0, 1, 0, 0xFA, 3, 1, 0, 0, 2, 1, 0, 0, 2}; /* Y' 1018 in 10 bits */
+    uint8_t out[sizeof bright];
+    const size_t length = sizeof bright;
     ferghulta_picture picture = ferghulta_new();
     show("a row before open", ferghulta_row_of(&picture, lights, LIGHTS, block, sizeof block));
     show("open with width 7681", ferghulta_open_of(&picture, FERGHULTA_BT709_8, 7681, 2));
@@ -169,6 +189,8 @@ static void refusals(void) {
     block[5] = 255; /* the first Y' word, after system, row number and count, becomes a timing code */
     show("a block with a timing code", ferghulta_read_block(block, sizeof block, codes, LIGHTS).refusal);
     show("1079 rows of a byte", ferghulta_to_segmented(block, 1079, block + 1079, 1079));
+    show("a block brought to its own depth", ferghulta_change_depth(FERGHULTA_BT709_10, bright, length, out, length));
+    show("a word of 1018 brought to 8 bits", ferghulta_change_depth(FERGHULTA_BT709_8, bright, length, out, length));
 }
 
 int main(void) {
@@ -181,6 +203,7 @@ int main(void) {
     for (uint32_t system = FERGHULTA_BT709_8; system <= FERGHULTA_BT2020_12; system++)
         send_and_read(system, names[system - 1], total.bytes);
     segmented_order();
+    other_depth();
     printf("\nwords, levels and codes beyond nominal, BT.709 8 bits\n");
     lamps();
     saturated_words();

@@ -1,5 +1,5 @@
 //! examples/ramp.c in Rust: the same calls, the same lines. `make example-rust` runs it and compares the two.
-use ferghulta::{read_block, to_progressive, to_segmented, version, VERSION};
+use ferghulta::{change_depth, read_block, to_progressive, to_segmented, version, VERSION};
 use ferghulta::{Codes, Decoded, Encoding, Figures, Level, Limited, Meter, Picture, Refusal, System, Words};
 
 const WIDTH: usize = 1920;
@@ -84,6 +84,24 @@ fn segmented_order() -> Result<(), Refusal> {
     Ok(())
 }
 
+/// The first word of a block, after system, row number and count.
+fn first_word(block: &[u8]) -> u16 {
+    u16::from_le_bytes([block[5], block[6]])
+}
+
+/// A row of 8 bits in 10 bits, and back.
+fn other_depth() -> Result<(), Refusal> {
+    let (mut block, mut wider, mut back) = ([0; BYTES], [0; BYTES], [0; BYTES]);
+    let mut picture = Picture::new();
+    picture.open(System::Bt709Bits8, WIDTH as u32, 1)?;
+    picture.row(&ramp(0), &mut block)?;
+    change_depth(System::Bt709Bits10, &block, &mut wider)?;
+    change_depth(System::Bt709Bits8, &wider, &mut back)?;
+    println!("\nfirst word in 8 bits {}, in 10 bits {}", first_word(&block), first_word(&wider));
+    println!("back in 8 bits: {}", if block == back { "as sent" } else { "not as sent" });
+    Ok(())
+}
+
 /// Millivolts are rounded down: -38 + 112/224 is -37.5.
 fn show_levels(lamp: &str, words: Words) -> Result<(), Refusal> {
     let system = System::Bt709Bits8;
@@ -158,6 +176,9 @@ fn refusals() -> Result<(), Refusal> {
     show("a block with a timing code", read_block(&block, &mut codes));
     let (rows, room) = block.split_at_mut(1079);
     show("1079 rows of a byte", to_segmented(rows, &mut room[..1079]));
+    let bright = [2, 0, 0, 1, 0, 0xFA, 3, 1, 0, 0, 2, 1, 0, 0, 2]; // Y' 1018 in 10 bits
+    show("a block brought to its own depth", change_depth(System::Bt709Bits10, &bright, &mut [0; 15]));
+    show("a word of 1018 brought to 8 bits", change_depth(System::Bt709Bits8, &bright, &mut [0; 15]));
     Ok(())
 }
 
@@ -172,6 +193,7 @@ fn main() -> Result<(), Refusal> {
         send_and_read(system, name, total)?;
     }
     segmented_order()?;
+    other_depth()?;
     println!("\nwords, levels and codes beyond nominal, BT.709 8 bits");
     lamps()?;
     saturated_words()?;

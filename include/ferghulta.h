@@ -29,11 +29,11 @@
 #include <stdint.h>
 
 #define FERGHULTA_VERSION_MAJOR 5
-#define FERGHULTA_VERSION_MINOR 1
+#define FERGHULTA_VERSION_MINOR 2
 #define FERGHULTA_VERSION_PATCH 0
-#define FERGHULTA_VERSION "5.1.0"
+#define FERGHULTA_VERSION "5.2.0"
 
-/* The version as one number to compare, in #if too: 50100 is 5.1.0. CHANGELOG.md says what a version promises. */
+/* The version as one number to compare, in #if too: 50200 is 5.2.0. CHANGELOG.md says what a version promises. */
 #define FERGHULTA_VERSION_NUMBER                                                                                       \
     (10000 * FERGHULTA_VERSION_MAJOR + 100 * FERGHULTA_VERSION_MINOR + FERGHULTA_VERSION_PATCH)
 
@@ -74,7 +74,7 @@ enum ferghulta_system {
 };
 
 /* What a refusal's number says. State (21 to 24) is tested first, then input in the order of the numbers; the tests of
- * a block are in the order that ferghulta_read_block names. */
+ * a block are in the order that ferghulta_read_block and ferghulta_change_depth name. */
 enum ferghulta_refusal {
     FERGHULTA_ACCEPTED = 0,
     FERGHULTA_REFUSED_SYSTEM = 1,        /* system not 1 to 4 */
@@ -92,7 +92,9 @@ enum ferghulta_refusal {
     FERGHULTA_REFUSED_NOT_OPEN = 22,     /* row or close while not open */
     FERGHULTA_REFUSED_ALL_ROWS = 23,     /* row when all rows are accepted */
     FERGHULTA_REFUSED_ROWS_MISSING = 24, /* close with rows missing */
-    FERGHULTA_REFUSED_LENGTH = 31        /* buffer length 0, no multiple of 1080, or unlike the other's */
+    FERGHULTA_REFUSED_LENGTH = 31,       /* buffer length 0, no multiple of 1080, or unlike the other's */
+    FERGHULTA_REFUSED_TARGET = 32,       /* target system equal to the block's, or of the other Recommendation */
+    FERGHULTA_REFUSED_TIMING = 33        /* word of the result in the timing codes */
 };
 
 /* The same in words, for people; programs compare the number. */
@@ -115,6 +117,8 @@ FERGHULTA_MUST_USE static __inline const char *ferghulta_refusal_text(uint32_t r
     case FERGHULTA_REFUSED_ALL_ROWS: return "row when all rows are accepted";
     case FERGHULTA_REFUSED_ROWS_MISSING: return "close with rows missing";
     case FERGHULTA_REFUSED_LENGTH: return "buffer length 0, no multiple of 1080, or unlike the other's";
+    case FERGHULTA_REFUSED_TARGET: return "target system equal to the block's, or of the other Recommendation";
+    case FERGHULTA_REFUSED_TIMING: return "word of the result in the timing codes";
     default: return "not a refusal of this version";
     }
 }
@@ -404,6 +408,19 @@ FERGHULTA_MUST_USE FERGHULTA_NONNULL uint32_t ferghulta_to_segmented(const uint8
 FERGHULTA_MUST_USE FERGHULTA_NONNULL uint32_t ferghulta_to_progressive(const uint8_t *__restrict segmented,
                                                                        size_t length, uint8_t *__restrict progressive,
                                                                        size_t room);
+
+/* ---- Depth change: a block of one depth of a Recommendation becomes the block of its other depth, 1 and 2 being those
+ * of BT.709, 3 and 4 those of BT.2020. Upward a word is multiplied by 4; downward it is divided by 4 and rounded,
+ * halves up. Upward and then downward gives the first block back, byte for byte. */
+
+/* Writes the block that the `length` bytes are, in the system `target`, to the front of `out`, which has `room` bytes;
+ * what lies beyond stays. The block written is as long, with the same row number and counts. It returns the refusal
+ * itself; then nothing is written. Refused: 1 (target not 1 to 4), before the block is looked at; then what
+ * ferghulta_read_block refuses, in its order, up to 6; 32; 33 (a word of the result is a timing code: downward, a word
+ * from 1018 in system 2 and from 4078 in system 4, and upward none); 5 (room below length). */
+FERGHULTA_MUST_USE FERGHULTA_NONNULL uint32_t ferghulta_change_depth(uint32_t target, const uint8_t *__restrict block,
+                                                                     size_t length, uint8_t *__restrict out,
+                                                                     size_t room);
 
 #ifdef __cplusplus
 }

@@ -1,4 +1,4 @@
-//! The bench values of document 01 and of requests 2026-03 to 2026-08, of the exact program itself.
+//! The bench values of document 01 and of requests 2026-03 to 2026-09, of the exact program itself.
 use crate::answers::Meter;
 use crate::exact::*;
 
@@ -14,6 +14,7 @@ pub fn check() {
     totals();
     histories();
     meters();
+    depths();
 }
 
 fn lights() {
@@ -186,4 +187,40 @@ fn meters() {
         assert_eq!(meter.figures(), figures(&history).into());
     }
     assert!(history.len() > 256 && history.len() < 400);
+}
+
+/// One Y' word of a system in the target's depth; beside it stand colour differences that are accepted.
+fn changed(source: u8, word: u16, target: u32) -> Outcome<u16> {
+    let grey = 128 * SYSTEMS[usize::from(source) - 1].scale as u16;
+    let changed = change_depth(target, &block(source, 7, [&[word], &[grey], &[grey]]), 15)?;
+    assert_eq!((changed.len(), u32::from(changed[0]), &changed[1..5]), (15, target, &[7, 0, 1, 0][..]));
+    Ok(u16::from_le_bytes([changed[5], changed[6]]))
+}
+
+/// The request's figures, the same of system 4, halves, and each refusal with the next one.
+fn depths() {
+    assert_eq!([1017, 1018, 1019].map(|w| changed(2, w, 1)), [Ok(254), Err(refusal::TIMING), Err(refusal::TIMING)]);
+    assert_eq!([4077, 4078, 4079].map(|w| changed(4, w, 3)), [Ok(1019), Err(refusal::TIMING), Err(refusal::TIMING)]);
+    assert_eq!([4, 5, 6, 7, 8].map(|w| changed(2, w, 1)), [1, 1, 2, 2, 2].map(Ok));
+    assert_eq!([1, 254].map(|w| changed(1, w, 2)), [4, 1016].map(Ok));
+    assert_eq!([4, 1019].map(|w| changed(3, w, 4)), [16, 4076].map(Ok));
+    assert_eq!([1, 3, 4].map(|target| changed(1, 16, target)), [Err(refusal::TARGET); 3]);
+    assert_eq!([1, 2, 4].map(|target| changed(4, 4079, target)), [Err(refusal::TARGET); 3]);
+    assert_eq!([0, 5].map(|target| change_depth(target, &[], 0)), [Err(refusal::SYSTEM), Err(refusal::SYSTEM)]);
+    let beyond = block(2, 0, [&[1020], &[512], &[512]]);
+    assert_eq!(change_depth(2, &beyond, 0), Err(refusal::CODE));
+    let timing = block(2, 0, [&[512], &[512], &[1018]]);
+    assert_eq!(change_depth(1, &timing, 0), Err(refusal::TIMING));
+    let grey = block(2, 0, [&[512], &[512], &[512]]);
+    assert_eq!(change_depth(1, &grey, 14), Err(refusal::OUTPUT));
+    up_and_down(1, 2);
+    up_and_down(3, 4);
+}
+
+/// 'Up and then down gives the first bytes back', of every word of video data.
+fn up_and_down(low: usize, high: u32) {
+    let words: Vec<u16> = SYSTEMS[low - 1].video_data().collect();
+    let first = block(low as u8, 4319, [&words, &words, &words]);
+    let up = change_depth(high, &first, first.len()).unwrap();
+    assert_eq!(change_depth(low as u32, &up, up.len()), Ok(first));
 }

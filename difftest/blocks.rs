@@ -81,7 +81,7 @@ pub fn any_known(random: &mut Pseudorandom) -> &'static System {
 
 // ---- damage
 
-fn put_word(bytes: &mut [u8], place: usize, word: u16) {
+pub fn put_word(bytes: &mut [u8], place: usize, word: u16) {
     if place + 2 <= bytes.len() {
         bytes[place..place + 2].copy_from_slice(&word.to_le_bytes());
     }

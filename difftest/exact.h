@@ -21,5 +21,6 @@ ferghulta_total_answer exact_total_bytes(uint32_t width, uint32_t height);
 ferghulta_picture_answer exact_open(ferghulta_picture picture, uint32_t system, uint32_t width, uint32_t height);
 ferghulta_picture_answer exact_row(ferghulta_picture picture, const uint16_t *lights, size_t count, uint8_t *out, size_t room);
 ferghulta_picture_answer exact_close(ferghulta_picture picture);
+uint32_t exact_change_depth(uint32_t target, const uint8_t *block, size_t length, uint8_t *out, size_t room);
 
 #endif

@@ -26,6 +26,8 @@ pub mod refusal {
     pub const ALL_ROWS: u32 = 23;
     pub const ROWS_MISSING: u32 = 24;
     pub const LENGTH: u32 = 31;
+    pub const TARGET: u32 = 32;
+    pub const TIMING: u32 = 33;
 }
 
 fn require(condition: bool, refusal: u32) -> Outcome<()> {
@@ -47,7 +49,7 @@ pub struct System {
     weights: Weights,
 }
 
-#[derive(Clone, Copy)]
+#[derive(Clone, Copy, PartialEq)]
 struct Weights {
     kr: i128,
     kg: i128,
@@ -506,8 +508,8 @@ fn block_of_lights(system: &System, number: u16, lights: &[u16]) -> Vec<u8> {
     block(system.number as u8, number, [y, cb, cr])
 }
 
-/// Reads a block for a lent slice of so many places.
-pub fn read_block(bytes: &[u8], places: usize) -> Outcome<Row> {
+/// A block's system, row number, and the words of each sample, after all tests of reading but that of the room.
+fn words_of_block(bytes: &[u8]) -> Outcome<(&'static System, u16, Vec<[u16; 3]>)> {
     let (head, mut rest) = front(bytes, 3)?;
     let system = system(u32::from(head[0]))?;
     let number = word_at(head, 1);
@@ -519,6 +521,12 @@ pub fn read_block(bytes: &[u8], places: usize) -> Outcome<Row> {
     let words: Vec<[u16; 3]> = (0..y.len()).map(|j| [y[j], cb[j], cr[j]]).collect();
     let accepted = words.iter().all(|&w| are_all_in(system.video_data(), w));
     require(accepted, refusal::CODE)?;
+    Ok((system, number, words))
+}
+
+/// Reads a block for a lent slice of so many places.
+pub fn read_block(bytes: &[u8], places: usize) -> Outcome<Row> {
+    let (system, number, words) = words_of_block(bytes)?;
     require(places >= 3 * words.len(), refusal::OUTPUT)?;
     Ok(row_of_words(system, number, &words))
 }
@@ -730,4 +738,35 @@ pub fn figures(history: &[Clips]) -> Figures {
 /// 'Each accepted one enters one row', and 'a refused read enters nothing'.
 pub fn enter(history: &mut Vec<Clips>, outcome: &Outcome<Row>) {
     history.extend(outcome.iter().map(|row| row.clips));
+}
+
+// ---- request 2026-09, depth change
+
+/// 'The two depths of one Recommendation', whose weights are the same.
+fn are_two_depths(one: &System, other: &System) -> bool {
+    one.weights == other.weights && one.number != other.number
+}
+
+/// 'Upward a word is multiplied by 4, downward it is INT(word/4).'
+fn word_in_depth(source: &System, target: &System, word: u16) -> u16 {
+    let word = i128::from(word);
+    let changed = if target.scale > source.scale { 4 * word } else { int(ratio(word, 4)) };
+    changed as u16
+}
+
+/// The block in the target system, for a lent buffer of so many bytes. 'A target not 1 to 4 is 1, before the block is looked at';
+/// 32 is 'tested after block reading's own checks up to 6; 33, a result in the timing codes, next; then 5'.
+pub fn change_depth(number: u32, bytes: &[u8], room: usize) -> Outcome<Vec<u8>> {
+    let target = system(number)?;
+    let (source, row_number, words) = words_of_block(bytes)?;
+    require(are_two_depths(source, target), refusal::TARGET)?;
+    let section = |place: usize| -> Vec<u16> {
+        words.iter().map(|sample| word_in_depth(source, target, sample[place])).collect()
+    };
+    let [y, cb, cr] = [0, 1, 2].map(section);
+    let mut results = [&y, &cb, &cr].into_iter().flatten();
+    require(!results.any(|&word| target.is_timing(word)), refusal::TIMING)?;
+    let changed = block(target.number as u8, row_number, [&y, &cb, &cr]);
+    require(room >= changed.len(), refusal::OUTPUT)?;
+    Ok(changed)
 }

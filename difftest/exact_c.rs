@@ -127,3 +127,22 @@ pub extern "C" fn exact_level_of_difference(system: u32, word: u16) -> LevelAnsw
 pub extern "C" fn exact_total_bytes(width: u32, height: u32) -> TotalAnswer {
     exact::total_bytes(width, height).into()
 }
+
+/// # Safety
+/// As `exact_read_block`.
+#[no_mangle]
+pub unsafe extern "C" fn exact_change_depth(
+    target: u32,
+    block: *const u8,
+    length: usize,
+    out: *mut u8,
+    room: usize,
+) -> u32 {
+    match exact::change_depth(target, from_raw_parts(block, length), room) {
+        Ok(changed) => {
+            from_raw_parts_mut(out, changed.len()).copy_from_slice(&changed);
+            0
+        }
+        Err(refusal) => refusal,
+    }
+}

@@ -1,12 +1,13 @@
-/* Block reading beside the exact program, by itself and with a meter, on blocks that libFuzzer makes.
+/* Block reading beside the exact program, by itself and with a meter, and depth change, on blocks that libFuzzer makes.
  *
- * The first byte says how many places are lent beside those that the first count asks for. The rest is the block; where the second
- * byte is odd it is stretched: the words after the first count are repeated to fill three sections of that count. Its upper bits say
- * how many rows the meter has, whose counts are the bytes of the block again and again; from 66 on the whole meter is.
+ * The first byte says how many places are lent beside those that the first count asks for, and how many bytes for the other depth
+ * beside the block's own; the third says the target. The rest is the block; where the second byte is odd it is stretched: the words
+ * after the first count are repeated to fill three sections of that count. Its upper bits say how many rows the meter has, whose
+ * counts are the bytes of the block again and again; from 66 on the whole meter is.
  */
 #include "harness.h"
 
-enum { MOST_BYTES = 50000, MOST_PLACES = 3 * FERGHULTA_MOST_SAMPLES + 200, GUARD = 16 };
+enum { MOST_BYTES = 50000, MOST_ROOM = MOST_BYTES + 200, MOST_PLACES = 3 * FERGHULTA_MOST_SAMPLES + 200, GUARD = 16 };
 
 static uint8_t *bytes_end, *codes_end;
 
@@ -94,13 +95,51 @@ static void compare(const uint8_t *block, size_t length, size_t places)
     agree(READ_BLOCK, "the bytes lent", bytes, block, length);
 }
 
+/* Mostly the other depth of the block's Recommendation, a small number, or any. */
+static uint32_t target_of(uint8_t byte, const uint8_t *block, size_t length)
+{
+    static const uint8_t others[] = { 2, 1, 4, 3 };
+    uint32_t any = byte;
+    if (byte < 160)
+        return length > 0 ? others[(block[0] + 3) % 4] : 1;
+    if (byte >= 240 && length >= sizeof any)
+        memcpy(&any, block + length - sizeof any, sizeof any);
+    return byte < 240 ? byte % 6 : any;
+}
+
+/* A block that went up and comes down has its first bytes. */
+static void compare_down(const uint8_t *first, const uint8_t *up, size_t length)
+{
+    static uint8_t down[MOST_BYTES];
+    uint32_t refusal = ferghulta_change_depth(first[0], up, length, down, length), none = 0;
+    agree(CHANGE_DEPTH, "the refusal downward", &refusal, &none, sizeof refusal);
+    agree(CHANGE_DEPTH, "up and then down", down, first, length);
+}
+
+static void compare_depth(uint32_t target, const uint8_t *block, size_t length, size_t room)
+{
+    static uint8_t wanted_memory[GUARD + MOST_ROOM];
+    uint8_t *bytes = bytes_end - length, *out = codes_end - room, *memory = out - GUARD;
+    memcpy(bytes, block, length);
+    memset(memory, 0x5A, GUARD + room);
+    memset(wanted_memory, 0x5A, GUARD + room);
+    uint32_t got = ferghulta_change_depth(target, bytes, length, out, room);
+    uint32_t wanted = exact_change_depth(target, block, length, wanted_memory + GUARD, room);
+    note(CHANGE_DEPTH, got);
+    agree(CHANGE_DEPTH, "the refusal", &got, &wanted, sizeof got);
+    agree(CHANGE_DEPTH, "the buffer", memory, wanted_memory, GUARD + room);
+    agree(CHANGE_DEPTH, "the bytes lent", bytes, block, length);
+    if (got == 0 && target > block[0])
+        compare_down(block, out, length);
+}
+
 int LLVMFuzzerTestOneInput(const uint8_t *data, size_t size)
 {
     static uint8_t stretched[MOST_BYTES];
-    if (size < 2 || size > MOST_BYTES)
+    if (size < 3 || size > MOST_BYTES)
         return 0;
-    const uint8_t *block = data + 2;
-    size_t length = size - 2;
+    const uint8_t *block = data + 3;
+    size_t length = size - 3;
     if (data[1] % 2 == 1 && length > 5) {
         length = stretch(block, length, stretched);
         block = stretched;
@@ -108,5 +147,7 @@ int LLVMFuzzerTestOneInput(const uint8_t *data, size_t size)
     size_t places = places_for((int8_t)data[0], first_count(block, length));
     compare(block, length, places);
     compare_metered(block, length, places, data[1] / 2);
+    long room = (long)length + (int8_t)data[0];
+    compare_depth(target_of(data[2], block, length), block, length, room < 0 ? 0 : (size_t)room);
     return 0;
 }

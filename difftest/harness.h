@@ -8,7 +8,7 @@
 #include <string.h>
 #include <sys/mman.h>
 
-enum { FENCED_PAGES = 16, PAGE = 4096, REFUSALS = 32 };
+enum { FENCED_PAGES = 16, PAGE = 4096, REFUSALS = 34 };
 
 enum call {
     OPEN,
@@ -27,12 +27,13 @@ enum call {
     LEVEL_OF_CODE,
     LEVEL_OF_DIFFERENCE,
     TOTAL_BYTES,
+    CHANGE_DEPTH,
     CALLS
 };
 
 static const char *const names[CALLS] = { "open", "row", "close", "read_block", "read_metered", "meter_figures", "code_of_light",
     "span_of_code", "codes_of_signals", "signals_of_codes", "words_of_codes", "trimmed_words_of_codes", "codes_of_words",
-    "level_of_code", "level_of_difference", "total_bytes" };
+    "level_of_code", "level_of_difference", "total_bytes", "change_depth" };
 
 /* The library is not instrumented, so its refusals are told to libFuzzer as counters of their own. */
 __attribute__((section("__libfuzzer_extra_counters"))) static uint8_t refused[CALLS][REFUSALS];

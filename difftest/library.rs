@@ -39,6 +39,7 @@ extern "C" {
     pub fn ferghulta_meter_figures(meter: Meter) -> FiguresAnswer;
     pub fn ferghulta_to_segmented(from: *const u8, length: usize, to: *mut u8, room: usize) -> u32;
     pub fn ferghulta_to_progressive(from: *const u8, length: usize, to: *mut u8, room: usize) -> u32;
+    pub fn ferghulta_change_depth(target: u32, block: *const u8, length: usize, out: *mut u8, room: usize) -> u32;
 }
 
 /// The same calls with what the x86-64 convention leaves open, filled: the upper half of a register with a u32 or a u16, the fourth
@@ -88,5 +89,6 @@ pub mod filled {
             places: usize,
         ) -> *mut MeteredAnswer;
         pub fn ferghulta_meter_figures(meter: LongMeter) -> FiguresAnswer;
+        pub fn ferghulta_change_depth(target: u64, block: *const u8, length: usize, out: *mut u8, room: usize) -> u32;
     }
 }

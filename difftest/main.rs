@@ -5,6 +5,7 @@ mod answers;
 mod bench;
 mod blocks;
 mod clips;
+mod depths;
 mod exact;
 mod lent;
 mod library;
@@ -96,6 +97,7 @@ fn compare(effort: &Effort, seed: u64) -> bool {
         & clips::clipping_low_and_high(effort, random)
         & meters::read_metered(effort, random)
         & meters::lists(effort, random)
+        & depths::change_depth(effort, random)
 }
 
 /// The form, and cases and seed where they are given.

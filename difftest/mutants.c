@@ -23,6 +23,7 @@ ferghulta_picture_answer right_ferghulta_row(ferghulta_picture, const uint16_t *
 ferghulta_picture_answer right_ferghulta_close(ferghulta_picture);
 uint32_t right_ferghulta_to_segmented(const uint8_t *, size_t, uint8_t *, size_t);
 uint32_t right_ferghulta_to_progressive(const uint8_t *, size_t, uint8_t *, size_t);
+uint32_t right_ferghulta_change_depth(uint32_t, const uint8_t *, size_t, uint8_t *, size_t);
 
 static volatile uint8_t kept;
 
@@ -779,4 +780,330 @@ uint32_t ferghulta_to_progressive(const uint8_t *from, size_t length, uint8_t *t
     if (mutant(25))
         return right_ferghulta_to_segmented(from, length, to, room); /* both ways alike */
     return mutant(26) && length == 0 && room == 0 ? 0 : right_ferghulta_to_progressive(from, length, to, room);
+}
+
+/* ---- depth change */
+
+enum { MOST_BLOCK = FERGHULTA_BLOCK_BYTES(FERGHULTA_MOST_SAMPLES), Y_SECTION = 1, CB_SECTION = 2, CR_SECTION = 4, SECTIONS = 7 };
+
+/* A change whose target is a system's; its block has come through reading but for the last test. */
+struct change {
+    uint32_t source, target;
+    const uint8_t *block;
+    size_t samples, length, room;
+};
+
+/* What reading refuses of a block, up to 6. */
+static uint32_t refusal_of_block(const uint8_t *block, size_t length)
+{
+    static uint16_t read[3 * FERGHULTA_MOST_SAMPLES];
+    return right_ferghulta_read_block(block, length, read, sizeof read / sizeof *read).refusal;
+}
+
+static int are_two_depths(uint32_t one, uint32_t other)
+{
+    return one != other && (one <= 2) == (other <= 2);
+}
+
+static size_t word_place(size_t samples, int section, size_t j)
+{
+    return 5 + (size_t)section * (2 + 2 * samples) + 2 * j;
+}
+
+/* Whether a word of these sections, of the first samples, is at least this. */
+static int has_word_from(struct change c, int sections, size_t samples, int least)
+{
+    int found = 0;
+    for (int section = 0; section < 3; section++)
+        for (size_t j = 0; j < samples; j++)
+            found |= (sections >> section & 1) && word_at(c.block, word_place(c.samples, section, j)) >= least;
+    return found;
+}
+
+static int has_word_below(struct change c, int bound)
+{
+    int found = 0;
+    for (int section = 0; section < 3; section++)
+        for (size_t j = 0; j < c.samples; j++)
+            found |= word_at(c.block, word_place(c.samples, section, j)) < bound;
+    return found;
+}
+
+static int is_downward(struct change c)
+{
+    return scale(c.target) < scale(c.source);
+}
+
+/* Downward, the first word that gives a timing code: 1018 or 4078. */
+static int first_timing(struct change c)
+{
+    return 255 * scale(c.source) - 2;
+}
+
+static uint32_t refusal_of_room(struct change c)
+{
+    return c.room < c.length ? 5 : 0;
+}
+
+/* 33 by other words than those that give a timing code, then 5. */
+static uint32_t refusal_by(struct change c, int sections, size_t samples, int least)
+{
+    return is_downward(c) && has_word_from(c, sections, samples, least) ? 33 : refusal_of_room(c);
+}
+
+static uint32_t refusal_after_target(struct change c)
+{
+    return refusal_by(c, SECTIONS, c.samples, first_timing(c));
+}
+
+/* 32 is due. */
+static uint32_t spoilt_target(struct change c)
+{
+    int s = scale(c.source), t = scale(c.target);
+    if (mutant(177) && (4 * s == t || s == 4 * t))
+        return refusal_after_target(c); /* the other Recommendation */
+    if (mutant(178) && s == t && c.source != c.target)
+        return refusal_after_target(c); /* the same depth of the other Recommendation */
+    if (mutant(179) && c.source == c.target)
+        return refusal_after_target(c);
+    if (mutant(171) && is_downward(c) && has_word_from(c, SECTIONS, c.samples, first_timing(c)))
+        return 33; /* before 32 */
+    if (mutant(173))
+        return c.room < c.length ? 5 : 32; /* the room before the target */
+    return 32;
+}
+
+/* The target is the other depth: 33 by other words, or in another order. */
+static uint32_t spoilt_timing(struct change c, uint32_t refusal)
+{
+    int s = scale(c.source), least = first_timing(c);
+    if (mutant(168) && refusal == 33 && c.room < c.length)
+        return 5; /* the room before the result */
+    if (mutant(181))
+        return refusal_by(c, Y_SECTION, c.samples, least);
+    if (mutant(182))
+        return refusal_by(c, CB_SECTION, c.samples, least);
+    if (mutant(183))
+        return refusal_by(c, CR_SECTION, c.samples, least);
+    if (mutant(184))
+        return refusal_by(c, SECTIONS, c.samples - 1, least); /* without the last sample */
+    if (mutant(185))
+        return refusal_by(c, SECTIONS, c.samples, least - 1); /* at 1017 */
+    if (mutant(186) || mutant(199))
+        return refusal_by(c, SECTIONS, c.samples, least + 1); /* at 1019 alone; halves down */
+    if (mutant(187) || mutant(188) || mutant(198))
+        return refusal_of_room(c); /* a timing code is written; 254 for it; fractions dropped */
+    if (mutant(189))
+        return refusal_by(c, SECTIONS, c.samples, 1018); /* in system 4 too */
+    if (mutant(190) && c.source == 4)
+        return refusal_of_room(c); /* of BT.709 alone */
+    if (mutant(191) && !is_downward(c) && has_word_from(c, SECTIONS, c.samples, (255 * s + 3) / 4))
+        return 33; /* the result in the source's timing codes */
+    if (mutant(200) && c.source == 2)
+        return refusal_by(c, SECTIONS, c.samples, least + 1); /* halves to even: 254.5 gives 254 */
+    return refusal;
+}
+
+/* The refusal of a change whose block comes through reading, made wrong. */
+static uint32_t spoilt_change(struct change c, uint32_t refusal)
+{
+    int t = scale(c.target);
+    if (mutant(192) && (has_word_below(c, t) || has_word_from(c, SECTIONS, c.samples, 255 * t)))
+        return 6; /* by the target's video data */
+    if (mutant(193) && !has_nominal_words(c.block, c.samples))
+        return 6; /* at nominal */
+    if (refusal == 32)
+        return spoilt_target(c);
+    if (mutant(195) && refusal == 0 && c.room == c.length)
+        return 5; /* one byte more is asked for */
+    if (mutant(196) && refusal == 5 && c.room + 9 >= c.length)
+        return 0; /* 6 * width will do */
+    if (mutant(227) && c.target == 4)
+        return 32; /* from 10 bits there is no way up */
+    return spoilt_timing(c, refusal);
+}
+
+/* The refusal of a block that does not come through reading, made wrong. */
+static uint32_t spoilt_reading(uint32_t target, const uint8_t *block, size_t length, size_t room, uint32_t refusal)
+{
+    if (mutant(170) && refusal == 6 && !are_two_depths(block[0], target))
+        return 32; /* before the words */
+    if (mutant(172) && refusal == 6 && are_two_depths(block[0], target) && scale(target) < scale(block[0])) {
+        struct change c = { block[0], target, block, word_at(block, 3), length, room };
+        return has_word_from(c, SECTIONS, c.samples, first_timing(c)) ? 33 : 6; /* the result before the words */
+    }
+    if (mutant(174) && refusal == 6 && room < length)
+        return 5; /* the room before the words */
+    if (mutant(194) && refusal == 6 && are_two_depths(block[0], target))
+        return 33; /* a timing code is left to the result */
+    return refusal;
+}
+
+static uint32_t spoilt_depth(uint32_t target, const uint8_t *block, size_t length, size_t room, uint32_t refusal)
+{
+    uint32_t of_block = refusal_of_block(block, length);
+    if (!is_system(target)) {
+        if (mutant(175) && of_block != 0)
+            return of_block; /* the target after the block */
+        return mutant(176) && length < 3 ? 8 : 1; /* after the block's first bytes */
+    }
+    if (mutant(169) && length > 0 && is_system(block[0]) && !are_two_depths(block[0], target))
+        return 32; /* before the block's own tests */
+    if (mutant(228) && room < length)
+        return 5; /* before them */
+    if (of_block != 0)
+        return spoilt_reading(target, block, length, room, refusal);
+    return spoilt_change((struct change){ block[0], target, block, word_at(block, 3), length, room }, refusal);
+}
+
+static uint32_t word_upward(struct change c, uint32_t word)
+{
+    if (mutant(202))
+        return 4 * word + word / (64 * (uint32_t)scale(c.source)); /* the high bits again */
+    if (mutant(203))
+        return 4 * word + 2; /* the middle of what is rounded to it */
+    if (mutant(204))
+        return 4 * word + 3;
+    if (mutant(205))
+        return 4 * word % 1024; /* cut to 10 bits */
+    if (mutant(212))
+        return word * (uint32_t)scale(c.target); /* as if from 8 bits */
+    return 4 * word;
+}
+
+static uint32_t word_downward(struct change c, uint32_t word)
+{
+    uint32_t most = 255 * (uint32_t)scale(c.target) - 1, nearest = (word + 2) / 4;
+    if (mutant(188) && nearest > most)
+        return most;
+    if (mutant(198) || mutant(201))
+        return word / 4; /* fractions dropped; 33 as if they were not */
+    if (mutant(199))
+        return (word + 1) / 4; /* halves down */
+    if (mutant(200) && word % 8 == 2)
+        return word / 4; /* halves to even */
+    if (mutant(229))
+        return (word + 3) / 4; /* up */
+    if (mutant(230))
+        return (word + (uint32_t)scale(c.source) / 2) / (uint32_t)scale(c.source); /* as if to 8 bits */
+    return nearest;
+}
+
+static uint32_t word_of(struct change c, uint32_t word)
+{
+    if (scale(c.source) == scale(c.target))
+        return word;
+    return is_downward(c) ? word_downward(c, word) : word_upward(c, word);
+}
+
+static int is_left(struct change c, int section, size_t j)
+{
+    return mutant(207 + section) || (mutant(210) && j + 1 == c.samples) || (mutant(211) && j >= 4096);
+}
+
+static void put_word(uint8_t *bytes, size_t place, uint32_t word)
+{
+    bytes[place] = (uint8_t)word;
+    bytes[place + 1] = (uint8_t)(mutant(206) ? 0 : word >> 8); /* the high byte lost */
+}
+
+/* The block's words in the target's depth: all, or those before the first timing code. */
+static void make_words(struct change c, uint8_t *made, int stops)
+{
+    uint32_t behind = 255 * (uint32_t)scale(c.target);
+    for (int section = 0; section < 3; section++)
+        for (size_t j = 0; j < c.samples; j++) {
+            size_t place = word_place(c.samples, section, j);
+            uint32_t word = word_at(c.block, place), changed = is_left(c, section, j) ? word : word_of(c, word);
+            if (stops && changed >= behind)
+                return;
+            put_word(made, place, changed);
+        }
+}
+
+/* The block's front and counts, some of them made wrong. */
+static void make_header(struct change c, uint8_t *made)
+{
+    memcpy(made, c.block, c.length);
+    made[0] = (uint8_t)(mutant(216) ? c.source : c.target); /* the system kept */
+    if (mutant(213))
+        for (int section = 0; section < 3; section++)
+            put_word(made, word_place(c.samples, section, 0) - 2, word_of(c, (uint32_t)c.samples)); /* as words */
+    if (mutant(214))
+        put_word(made, 1, word_of(c, word_at(c.block, 1))); /* as a word */
+    if (mutant(215))
+        put_word(made, 1, 0);
+    if (mutant(217))
+        made[2] = 0;
+}
+
+static void make(struct change c, uint8_t *made)
+{
+    make_header(c, made);
+    make_words(c, made, 0);
+    if (mutant(218)) /* high byte first */
+        for (size_t place = 5; place + 1 < 5 + 2 * c.samples; place += 2) {
+            uint8_t low = made[place];
+            made[place] = made[place + 1];
+            made[place + 1] = low;
+        }
+    if (mutant(225))
+        made[c.length - 1] = c.block[c.length - 1]; /* the last byte of the given block */
+    if (mutant(226)) { /* exchanged */
+        uint8_t cb[2 * FERGHULTA_MOST_SAMPLES];
+        memcpy(cb, made + word_place(c.samples, 1, 0), 2 * c.samples);
+        memcpy(made + word_place(c.samples, 1, 0), made + word_place(c.samples, 2, 0), 2 * c.samples);
+        memcpy(made + word_place(c.samples, 2, 0), cb, 2 * c.samples);
+    }
+}
+
+static size_t lesser(size_t one, size_t other)
+{
+    return one < other ? one : other;
+}
+
+/* Writes what a change gives, and where it is made wrong what it must not; never beyond the room. */
+static void write_spoilt(struct change c, uint32_t refusal, uint8_t *out)
+{
+    static uint8_t made[MOST_BLOCK];
+    if (refusal == 0) {
+        make(c, made);
+        memcpy(out, made, lesser(c.length, c.room));
+    }
+    if (mutant(219) && refusal == 33 && c.room >= c.length) {
+        memcpy(made, out, c.length);
+        make_words(c, made, 1);
+        memcpy(out, made, c.length); /* before a timing code is found */
+    }
+    if (mutant(220) && refusal == 5) {
+        make(c, made);
+        memcpy(out, made, c.room); /* as far as it goes */
+    }
+    if (mutant(221) && refusal == 0 && c.room > c.length)
+        out[c.length] = 0; /* behind the block */
+    if (mutant(224) && refusal == 32 && c.source == c.target)
+        memcpy(out, c.block, lesser(c.length, c.room)); /* refused, and copied */
+    if (mutant(231) && refusal == 33 && c.room > 0)
+        out[0] = (uint8_t)c.target; /* the system before the words are looked at */
+}
+
+/* The words are changed anew here, but where nothing is made wrong. */
+uint32_t ferghulta_change_depth(uint32_t target, const uint8_t *block, size_t length, uint8_t *out, size_t room)
+{
+    static uint8_t other[MOST_BLOCK];
+    if (mutant(0))
+        return right_ferghulta_change_depth(target, block, length, out, room);
+    if (mutant(180))
+        target %= 256;
+    if (mutant(197) && refusal_of_block(block, length) == 11)
+        length = FERGHULTA_BLOCK_BYTES(word_at(block, 3)); /* what comes after is dropped */
+    if (mutant(223))
+        kept = block[length]; /* read behind the block */
+    uint32_t right = right_ferghulta_change_depth(target, block, length, other, lesser(room, MOST_BLOCK));
+    uint32_t refusal = spoilt_depth(target, block, length, room, right);
+    if (refusal_of_block(block, length) == 0 && is_system(target))
+        write_spoilt((struct change){ block[0], target, block, word_at(block, 3), length, room }, refusal, out);
+    if (mutant(222) && refusal == 0)
+        ((uint8_t *)block)[0] = (uint8_t)target; /* changed in place */
+    return refusal;
 }

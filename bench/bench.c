@@ -9,6 +9,7 @@
 
 #include "calls.h"
 #include "contestants.h"
+#include "depths.h"
 #include "exact.h"
 #include "meters.h"
 #include "segments.h"
@@ -248,6 +249,22 @@ static void time_segments(int rounds)
     }
 }
 
+// As many rows as the set from cache has.
+static void time_depths(int rounds)
+{
+    static const struct set OF = {"cache", 7680, 8, WARM_UP};
+    printf("\nns a block of %zu samples, in the other depth\n", OF.width);
+    printf("%-8s%-8s%14s%10s%8s\n", "system", "target", "change_depth", "memcpy", "ratio");
+    for (int s = 0; s < SYSTEM_COUNT; s++) {
+        struct change c[CHANGES];
+        time_changes(&SYSTEMS[s], OF.width, OF.count, rounds, c);
+        printf("%-8u%-8u%14.1f%10.1f%8.2f\n", (unsigned)SYSTEMS[s].number, (unsigned)other_depth(&SYSTEMS[s]), c[0].nanoseconds,
+               c[1].nanoseconds, c[0].nanoseconds / c[1].nanoseconds);
+        for (int n = 0; n < CHANGES; n++)
+            put_csv("depth", &OF, SYSTEMS[s].number, "other depth", c[n].name, c[n].nanoseconds);
+    }
+}
+
 static void list(void)
 {
     static const struct set LEAST = {"list", ALIGN, 1, NOTHING};
@@ -308,6 +325,7 @@ int main(int argc, char **argv)
     time_single_calls(rounds);
     time_meters(rounds);
     time_segments(rounds);
+    time_depths(rounds);
     if (csv && fclose(csv))
         stop("the CSV file cannot be written");
 }

@@ -38,6 +38,9 @@ class Figures:
     def read(self, width, system, name):
         return self.values["read", width, "in turn", system, "read", name]
 
+    def depth(self, system, name):
+        return self.values["depth", 7680, "cache", system, "other depth", name]
+
     def move(self, row_bytes, name):
         return self.values["move", row_bytes, "memory", 0, "move", name]
 

@@ -11,10 +11,11 @@ SETS = ((1920, "a picture"), (7680, "a picture"), (1920, "cache"), (7680, "cache
 ROW, READ = "light to words", "words to codes"
 EXACT, APPROXIMATE = "zimg exact gamma", "zimg approximate gamma"
 DEFAULT, WIDEST = "zimg", "zimg 64-byte vectors"
-# What is asked of one run at width 7680, and of moving rows beside memcpy.
+# What is asked of one run at width 7680, and of moving rows and changing their depth beside memcpy.
 LEAST_FASTER, MOST_SLOWER = 4, 4
 ROW_BYTES, MOST_MOVING = (11529, 46089), 2
 METERED_WIDTHS = (1, 1920, 7680)
+TARGETS, MOST_CHANGING = {1: 2, 2: 1, 3: 4, 4: 3}, 4
 
 
 def table(head, lines):
@@ -105,6 +106,13 @@ def move_lines(f):
             yield [f"`{name}`", str(row_bytes), f"{ours:.2f}", f"{copied:.2f}", f"{ours / copied:.2f}", met]
 
 
+def depth_lines(f):
+    for system, target in TARGETS.items():
+        ours, copied = (f.depth(system, name) for name in ("change_depth", "memcpy"))
+        met = "met" if ours <= MOST_CHANGING * copied else "not met"
+        yield [str(system), str(target), f"{ours:.1f}", f"{copied:.1f}", f"{ours / copied:.2f}", met]
+
+
 def count_table(counted):
     names = list(dict.fromkeys((way, name) for _, way, name in counted))
     lines = [[f"{way}, {name}", *(f"{counted[s, way, name]:.1f}" for s in SYSTEMS)] for way, name in names]
@@ -149,6 +157,8 @@ def report(folder):
         table(["width", "system", "`read_block`", "`read_metered`", "metered / plain"], list(meter_lines(f))),
         f"### Segmented frames, ms for 1080 rows (asked: at most {MOST_MOVING} times the time of memcpy)",
         table(["call", "row bytes", "ours", "memcpy", "ours / memcpy", "result"], list(move_lines(f))),
+        f"### Depth change, ns a block of 7680 samples (asked: at most {MOST_CHANGING} times the time of memcpy)",
+        table(["system", "target", "`change_depth`", "memcpy", "ours / memcpy", "result"], list(depth_lines(f))),
     ]  # fmt: skip
     if counted:
         parts += ["### Instructions, rows of 1920", count_table(counted)]

@@ -51,13 +51,14 @@ pub record Sectioned (bs : List ℕ) (w : ℕ) : Type 0 where
   pub some : 1 ≤ w
   pub most : w ≤ 7680
 
-section-count : (bs : List ℕ) (i w : ℕ) (good : ℕ → Bool) → sectionAt bs i good ≡ accepted w → good w ≡ true
+-- the count of an accepted section
+pub section-count : (bs : List ℕ) (i w : ℕ) (good : ℕ → Bool) → sectionAt bs i good ≡ accepted w → (good w ≡ true) × (fieldAt bs i ≡ w)
 section-count bs i w good e =
     let counted = passed (leb (i + 2) (length bs)) 8 _ w e in
     let tested = passed (good (fieldAt bs i)) 9 _ w (counted .1) in
     let ends = passed (leb (i + 2 + 2 * fieldAt bs i) (length bs)) 8 _ w (tested .1) in
     let same : fieldAt bs i ≡ w = let h = ends .1 in cc in
-    ap good (sym same) ∙ tested .0
+    (ap good (sym same) ∙ tested .0, same)
 
 sections-accepted : (bs : List ℕ) (w : ℕ) → sections bs ≡ accepted w → Sectioned bs w
 unfolding sections
@@ -67,7 +68,7 @@ sections-accepted bs w e =
     let cb = accepted-first (sectionAt bs (5 + 2 * n) (eqb n)) _ w (luma .2) in
     let cr = accepted-first (sectionAt bs (7 + 4 * n) (eqb n)) _ w (cb .2) in
     let ends = required (eqb (length bs) (9 + 6 * n)) 11 n w (cr .2) in
-    let ok = section-count bs 3 n widthOk (luma .1) in
+    let ok = section-count bs 3 n widthOk (luma .1) .0 in
     let t = each (leb 1 n) (leb n 7680) ok in
     record {
       size = omega (arith, eqb-true (length bs) (9 + 6 * n) (ends .0), ends .1);

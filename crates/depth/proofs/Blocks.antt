@@ -2,7 +2,6 @@
 -- Assumes nothing.
 use Prim.Native.Nat.{ℕ, zero, suc, _+_, _*_, _/_, _%_, _≤_, _<_}
 use mathlib.Core.Path.{_≡_, refl, sym, ap, _∙_}
-use mathlib.Core.Bool.{Bool, true}
 use mathlib.Core.List.{List, [], _∷_, _++_, append-assoc, append-nil}
 use native.Mathlib.Omega.{arith}
 use lib.Dec.{leb, eqb}
@@ -17,7 +16,7 @@ use Rattle.block.specs.declared.Judged.{Judged}
 use Rattle.block.specs.Block.{field, fields, section, block, tabulate}
 use Rattle.block.specs.Read.{fieldAt, sectionAt, widthOk, sections, walk, wordsOk, judge, sampleAt}
 use Rattle.block.proofs.Stored.{length-tabulate, fields-append, gap-at, pair-at}
-use Rattle.block.proofs.Walking.{passed, walk-accepted}
+use Rattle.block.proofs.Walking.{passed, section-count, walk-accepted}
 use Rattle.depth.proofs.Claims.{Bytes}
 
 -- ---- what the walk found
@@ -28,16 +27,9 @@ record Headed (bs : List ℕ) (w : ℕ) : Type 0 where
   cb : fieldAt bs (5 + 2 * w) ≡ w
   cr : fieldAt bs (7 + 4 * w) ≡ w
 
--- a section's count, by itself and where it must be n
-section-count : (bs : List ℕ) (i w : ℕ) (good : ℕ → Bool) → sectionAt bs i good ≡ accepted w → (good (fieldAt bs i) ≡ true) × (fieldAt bs i ≡ w)
-section-count bs i w good e =
-    let counted = passed (leb (i + 2) (length bs)) 8 _ w e in
-    let tested = passed (good (fieldAt bs i)) 9 _ w (counted .1) in
-    let ends = passed (leb (i + 2 + 2 * fieldAt bs i) (length bs)) 8 _ w (tested .1) in
-    (tested .0, let h = ends .1 in cc)
-
+-- a section whose count must be n
 section-of : (bs : List ℕ) (i n w : ℕ) → sectionAt bs i (eqb n) ≡ accepted w → fieldAt bs i ≡ n
-section-of bs i n w e = sym (eqb-true n (fieldAt bs i) (section-count bs i w (eqb n) e .0))
+section-of bs i n w e = let count = section-count bs i w (eqb n) e in count .1 ∙ sym (eqb-true n w (count .0))
 
 sections-headed : (bs : List ℕ) (w : ℕ) → sections bs ≡ accepted w → Headed bs w
 unfolding sections

@@ -1,19 +1,16 @@
 -- Up, down, and up and then down, over the two scales s and 4s of a Recommendation.
 -- Assumes nothing.
 use Prim.Native.Nat.{ℕ, zero, suc, _+_, _*_, _-_, _≤_, _<_}
-use mathlib.Core.Path.{_≡_, refl, sym, ap, subst, _∙_}
+use mathlib.Core.Path.{_≡_, refl, sym, ap, _∙_}
 use mathlib.Core.Bool.{Bool, true, false, not, _&&_, false≢true}
-use mathlib.Core.Logic.{_⊎_, inl, inr, ⊎-elim}
+use mathlib.Core.Logic.{_⊎_, inl, inr}
 use mathlib.Core.List.{List, [], _∷_, _++_}
 use native.Mathlib.Omega.{arith}
 use lib.Dec.{ltb}
-use lib.ListN.{length}
-use borrow.Author.Tests.{not-true}
-use Rattle.exact.specs.Outcome.{Outcome, accepted, refused, require}
+use Rattle.exact.specs.Outcome.{accepted, refused, require}
 use Rattle.exact.specs.Whole.{INT}
 use Rattle.exact.proofs.Boolean.{each-of-three, is-false}
 use Rattle.exact.proofs.Order.{below-or-not}
-use Rattle.exact.proofs.Outcome.{accepted-first, required}
 use Rattle.systems.specs.declared.System.{System}
 use Rattle.systems.specs.declared.System.the-variants.{Bt709Bits8, Bt709Bits10, Bt2020Bits10, Bt2020Bits12}
 use Rattle.systems.specs.Systems.{number, bits, scale, videoData, within, timing, named}
@@ -22,7 +19,7 @@ use Rattle.systems.proofs.Scales.{scale-range, named-number}
 use Rattle.matrix.specs.declared.Words.{Words}
 use Rattle.block.specs.declared.Judged.{Judged}
 use Rattle.block.specs.Block.{block, tabulate}
-use Rattle.block.specs.Read.{sampleAt, walk, wordsOk, judge}
+use Rattle.block.specs.Read.{sampleAt, judge}
 use Rattle.block.proofs.Ranges.{within-at}
 use Rattle.block.proofs.Reading.{judged-sound}
 use Rattle.depth.specs.Depth.{otherDepth, wordIn, wordsIn, noTiming, noTimingTo, rowIn, blockIn, judgeFor}
@@ -45,35 +42,28 @@ pub record Two (m n s : ℕ) : Type 0 where
   pub rises : ltb (bits lesser) (bits greater) ≡ true
   pub falls : ltb (bits greater) (bits lesser) ≡ false
 
+these : (y z : System) → scale z ≡ 4 * scale y → otherDepth y z ≡ true → otherDepth z y ≡ true → ltb (bits y) (bits z) ≡ true → ltb (bits z) (bits y) ≡ false
+    → Two (number y) (number z) (scale y)
+these y z four up down rises falls = record {
+  lesser = y;
+  greater = z;
+  lesser-number = refl;
+  greater-number = refl;
+  lesser-scale = refl;
+  greater-scale = four;
+  up = up;
+  down = down;
+  rises = rises;
+  falls = falls;
+}
+
 pub two : {m n s : ℕ} → Depths m n s → Two m n s
-two bt709 = record {
-  lesser = Bt709Bits8;
-  greater = Bt709Bits10;
-  lesser-number = refl;
-  greater-number = refl;
-  lesser-scale = refl;
-  greater-scale = refl;
-  up = refl;
-  down = refl;
-  rises = refl;
-  falls = refl;
-}
-two bt2020 = record {
-  lesser = Bt2020Bits10;
-  greater = Bt2020Bits12;
-  lesser-number = refl;
-  greater-number = refl;
-  lesser-scale = refl;
-  greater-scale = refl;
-  up = refl;
-  down = refl;
-  rises = refl;
-  falls = refl;
-}
+two bt709 = these Bt709Bits8 Bt709Bits10 refl refl refl refl refl
+two bt2020 = these Bt2020Bits10 Bt2020Bits12 refl refl refl refl refl
 
 -- what has the greater as its other depth is the lesser
 pub only-lesser : {m n s : ℕ} (d : Depths m n s) (y : System) → otherDepth y (two d .greater) ≡ true → y ≡ two d .lesser
-unfolding two
+unfolding two these
 only-lesser bt709 Bt709Bits8 e = refl
 only-lesser bt709 Bt709Bits10 e = absurd (false≢true e)
 only-lesser bt709 Bt2020Bits10 e = absurd (false≢true e)

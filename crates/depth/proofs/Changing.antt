@@ -2,19 +2,18 @@
 -- Assumes nothing.
 use Prim.Native.Nat.{ℕ, _+_, _*_, _≤_, _<_}
 use native.Mathlib.Nat.{le-refl}
-use mathlib.Core.Path.{_≡_, refl, sym, ap, _∙_}
+use mathlib.Core.Path.{_≡_, refl, ap, _∙_}
 use mathlib.Core.Bool.{true}
 use mathlib.Core.List.{List}
 use native.Mathlib.Omega.{arith}
 use lib.Dec.{leb}
-use lib.ListN.{length}
-use Rattle.exact.specs.Outcome.{Outcome, accepted, refused, require}
+use Rattle.exact.specs.Outcome.{accepted, refused, require}
 use Rattle.exact.proofs.Outcome.{accepted-first, required}
 use Rattle.systems.specs.declared.System.{System}
 use Rattle.systems.specs.Systems.{named}
 use Rattle.block.specs.declared.Judged.{Judged}
 use Rattle.block.specs.Block.{section, size, tabulate}
-use Rattle.block.specs.Read.{fieldAt, sampleAt, judge}
+use Rattle.block.specs.Read.{fieldAt, judge}
 use Rattle.block.specs.Inner.{Decodable}
 use Rattle.block.proofs.Walking.{passed}
 use Rattle.block.proofs.Reading.{decodable}
@@ -36,32 +35,18 @@ section-in y z bs d d′ at k n v way e put =
 
 -- the sections of a block that can be read, and room for as many
 module _ {bs : List ℕ} {w r : ℕ} (d : Decodable bs w r) (room : ℕ) (fits : size w ≤ room) where
+  movable : (at k : ℕ) → at ≡ k → k + 2 * w ≤ size w → ((i : ℕ) → i < w → fieldAt bs (k + 2 * i) < 4096) → Movable bs at w room
+  movable at k e h small =
+      rw e record { there = omega (arith, d .long); near = omega (arith, d .narrow); few = d .narrow; narrow = small; fits = omega arith }
+
   pub luma-movable : Movable bs 5 w room
-  luma-movable = record {
-    there = omega (arith, d .long);
-    near = omega arith;
-    few = d .narrow;
-    narrow = λ i h. omega (arith, d .words i h .y-high);
-    fits = omega arith;
-  }
+  luma-movable = movable 5 5 refl (omega arith) (λ i h. d .words i h .y-high)
 
   pub cb-movable : Movable bs (5 + 2 * w + 2) w room
-  cb-movable = record {
-    there = omega (arith, d .long);
-    near = omega (arith, d .narrow);
-    few = d .narrow;
-    narrow = λ i h. let place : 5 + 2 * w + 2 + 2 * i ≡ 7 + 2 * w + 2 * i = omega arith in rw place (omega (arith, d .words i h .cb-high));
-    fits = omega arith;
-  }
+  cb-movable = movable (5 + 2 * w + 2) (7 + 2 * w) (omega arith) (omega arith) (λ i h. d .words i h .cb-high)
 
   pub cr-movable : Movable bs (7 + 4 * w + 2) w room
-  cr-movable = record {
-    there = omega (arith, d .long);
-    near = omega (arith, d .narrow);
-    few = d .narrow;
-    narrow = λ i h. let place : 7 + 4 * w + 2 + 2 * i ≡ 9 + 4 * w + 2 * i = omega arith in rw place (omega (arith, d .words i h .cr-high));
-    fits = omega arith;
-  }
+  cr-movable = movable (7 + 4 * w + 2) (9 + 4 * w) (omega arith) (omega arith) (λ i h. d .words i h .cr-high)
 
 -- what a block that was judged for z has shown
 pub record For (z : System) (bs : List ℕ) (b : Judged) : Type 0 where

@@ -1,6 +1,6 @@
 -- Whoever does what the definitions say has the claim.
 -- Assumes nothing.
-use Prim.Native.Nat.{ℕ, _+_, _*_, _-_, _≤_, _<_}
+use Prim.Native.Nat.{ℕ, _*_, _-_, _≤_}
 use mathlib.Core.Path.{_≡_, refl, sym, ap, subst, _∙_}
 use mathlib.Core.Bool.{Bool, true, false, false≢true}
 use mathlib.Core.Logic.{_↔_}
@@ -9,8 +9,8 @@ use native.Mathlib.Omega.{arith}
 use lib.Dec.{leb}
 use lib.ListN.{length, take, drop}
 use lib.Seq.{take-at, drop-at}
-use borrow.Author.Tests.{le-leb, leb-true}
-use Rattle.exact.specs.Outcome.{Outcome, accepted, refused, _and-then_, require}
+use borrow.Author.Tests.{le-leb}
+use Rattle.exact.specs.Outcome.{Outcome, accepted, refused, require}
 use Rattle.exact.specs.Whole.{INT}
 use Rattle.exact.proofs.Outcome.{accepted-first, required}
 use Rattle.systems.specs.declared.System.{System}
@@ -20,15 +20,15 @@ use Rattle.matrix.specs.declared.Words.{Words}
 use Rattle.block.specs.declared.Header.{Header}
 use Rattle.block.specs.declared.Judged.{Judged}
 use Rattle.block.specs.Block.{size}
-use Rattle.block.specs.Read.{sampleAt, judge, header, headerOf}
+use Rattle.block.specs.Read.{judge, header, headerOf}
 use Rattle.block.proofs.Reading.{judged-sound, row-accepted}
 use Rattle.depth.specs.Depth.{otherDepth, noTimingTo, wordIn, rowIn, judgeFor, blockIn, changing, over, bufferBy, bufferAfter, heard}
-use Rattle.depth.proofs.Claims.{Label, Card, Depths, Bytes, AtLeast, Each, Went, up, down, ReadsAs, Becomes, Claimed}
+use Rattle.depth.proofs.Claims.{Label, Card, Depths, Bytes, AtLeast, Each, Went, up, down, Becomes, Claimed}
 use Rattle.depth.proofs.Card.{labelOf}
 use Rattle.depth.proofs.Passing.{Pair, upward, downward, pair}
 use Rattle.depth.proofs.Changing.{For, judged-for, by-room, no-block}
 use Rattle.depth.proofs.NewBlock.{new-length, new-samples, new-judged}
-use Rattle.depth.proofs.Numbers.{Below, values, refusing, judge-below}
+use Rattle.depth.proofs.Numbers.{Below, refusing, judge-below}
 use Rattle.depth.proofs.BothWays.{Two, two, only-lesser, same-system, up-judged, down-judged, some-high, high-refused, back-judged, block-back}
 
 -- a card that does what the definitions say, and whose calls always come to something

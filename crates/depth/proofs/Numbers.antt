@@ -1,7 +1,6 @@
 -- What reading refuses a block for has a number below 12, so 33 is no other call's.
 -- Assumes nothing.
 use Prim.Native.Nat.{ℕ, _+_, _*_, _<_}
-use mathlib.Core.Path.{_≡_}
 use mathlib.Core.Bool.{Bool, true, false}
 use mathlib.Core.List.{List, [], _∷_}
 use native.Mathlib.Omega.{arith}
@@ -10,7 +9,7 @@ use lib.ListN.{length, getD}
 use Rattle.exact.specs.Outcome.{Outcome, accepted, refused, _and-then_, require}
 use Rattle.systems.specs.declared.System.{System}
 use Rattle.systems.specs.declared.System.the-variants.{Bt709Bits8, Bt709Bits10, Bt2020Bits10, Bt2020Bits12}
-use Rattle.systems.specs.Systems.{number, named, namedIn}
+use Rattle.systems.specs.Systems.{number, namedIn}
 use Rattle.block.specs.Read.{fieldAt, sectionAt, widthOk, sections, walk, wordsOk, judge}
 
 pub data Below {A : Type 0} : Outcome A → Type 0 where

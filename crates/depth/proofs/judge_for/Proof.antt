@@ -1,12 +1,11 @@
 use mathlib.Core.Path.{_≡_, sym, ap, _∙_}
-use mathlib.Core.Bool.{Bool}
-use mathlib.Core.List.{List}
-use Prim.Native.Nat.{ℕ}
+use Prim.Native.Nat.{_≤_}
 use native.Mathlib.Omega.{arith}
 use lib.ListN.{length}
 use denote.Ref.{now}
 use borrow.Author.Tests.{not-true, not-false}
 use Rattle.exact.specs.Outcome.{accepted}
+use Rattle.block.specs.Block.{size}
 use Rattle.block.specs.Read.{walk, judge, judgedOutcome}
 use Rattle.block.proofs.Walking.{walk-accepted}
 use Rattle.depth.specs.Depth.{judgeFor}
@@ -19,8 +18,12 @@ use Rattle.depth.proofs.judge_for.Tie as tie
 walked : (c : tie.After-b) → walk (now (c .before .before .before .before .args .bytes)) ≡ accepted (c .b .given .0 .0)
 walked c = sym (c .before .before .walk .ensures) ∙ ap judgedOutcome (c .b .given .1)
 
+-- it has its samples
+long : (c : tie.After-b) → (size (c .b .given .0 .0 .samples) ≤ length (now (c .before .before .before .before .args .bytes))) × (c .b .given .0 .0 .samples ≤ 7680)
+long c = let shape = walk-accepted _ _ (walked c) .0 in (omega (arith, shape .size), shape .most)
+
 refused-with-requires : tie.Need-refused-with-requires
-refused-with-requires c κs = let shape = walk-accepted _ _ (walked (c .before .before .before)) .0 in (omega (arith, shape .size), shape .most)
+refused-with-requires c κs = long (c .before .before .before)
 
 returns : tie.Need-returns
 returns c =
@@ -28,14 +31,10 @@ returns c =
     c .refused-with .ensures ∙ sym (no-other-depth _ _ _ (walked (asked .before .before)) (sym (asked .other-depth .ensures) ∙ not-true _ (c .before .if1 .taken)))
 
 all-in-requires : tie.Need-all-in-requires
-all-in-requires c κs =
-    let shape = walk-accepted _ _ (walked (c .before .before .before .before .before)) .0 in
-    (omega (arith, shape .size), shape .most)
+all-in-requires c κs = long (c .before .before .before .before .before)
 
 refused-with-requires-2 : tie.Need-refused-with-requires-2
-refused-with-requires-2 c κs =
-    let shape = walk-accepted _ _ (walked (c .before .before .before .before .before .before .before)) .0 in
-    (omega (arith, shape .size), shape .most)
+refused-with-requires-2 c κs = long (c .before .before .before .before .before .before .before)
 
 returns-2 : tie.Need-returns-2
 returns-2 c =

@@ -113,7 +113,7 @@ impl Judged {
     }
 }
 
-// From the front: system, row number and sections.
+// Walks a block from the front: system, row number and sections. Refused: 8, 1, 10, then 8, 9, 8 at each section, then 11.
 pub fn walk(bytes: &[u8]) -> Judgement
     ensures { λ r. ⌜ judgedOutcome r ≡ walk (now (bytes .entry)) ⌝ }
 {

@@ -93,26 +93,30 @@ tabulate-agree f g zero h = refl
 tabulate-agree f g (suc n) h = λ j. tabulate-agree f g n (λ i l. h i (omega arith)) j ++ h n (omega arith) j ∷ []
 
 module _ {m n s : ℕ} (t : Two m n s) where
+  -- the least word that is rejected downward
+  abbrev limit : ℕ
+  limit = 4 * (255 * s) - 2
+
   abbrev y : System
   y = t .lesser
 
   abbrev z : System
   z = t .greater
 
+  four : scale z ≡ 4 * scale y
+  four = t .greater-scale ∙ ap (λ (k : ℕ). 4 * k) (sym (t .lesser-scale))
+
   upward-no-timing : (w : ℕ) → within (videoData y) w ≡ true → not (timing z (wordIn y z w)) ≡ true
   upward-no-timing w v =
       let b = upward-video (scale y) (scale-range y .0) w v in
-      let four : scale z ≡ 4 * scale y = t .greater-scale ∙ ap (λ (k : ℕ). 4 * k) (sym (t .lesser-scale)) in
       rw (t .rises, four, no-timing (4 * scale y) (4 * w) (b .0) (b .1)) refl
 
-  downward-timing-if : (w : ℕ) → within (videoData z) w ≡ true → 4 * (255 * s) - 2 ≤ w → timing y (wordIn z y w) ≡ true
+  downward-timing-if : (w : ℕ) → within (videoData z) w ≡ true → limit ≤ w → timing y (wordIn z y w) ≡ true
   downward-timing-if w v h =
-      let four : scale z ≡ 4 * scale y = t .greater-scale ∙ ap (λ (k : ℕ). 4 * k) (sym (t .lesser-scale)) in
       rw (t .falls) (downward-timing (scale y) (scale-range y .0) w (rw four at v) (omega (arith, t .lesser-scale)))
 
-  downward-no-timing : (w : ℕ) → within (videoData z) w ≡ true → w < 4 * (255 * s) - 2 → timing y (wordIn z y w) ≡ false
+  downward-no-timing : (w : ℕ) → within (videoData z) w ≡ true → w < limit → timing y (wordIn z y w) ≡ false
   downward-no-timing w v h =
-      let four : scale z ≡ 4 * scale y = t .greater-scale ∙ ap (λ (k : ℕ). 4 * k) (sym (t .lesser-scale)) in
       let b = downward-video (scale y) (scale-range y .0) w (rw four at v) (omega (arith, t .lesser-scale)) in
       rw (t .falls) (no-timing (scale y) (INT w 4) (b .0) (b .1))
 
@@ -145,11 +149,11 @@ module _ {m n s : ℕ} (t : Two m n s) where
       down-judged = by-timing y bs b e (ap (λ (x : System). otherDepth x y) is ∙ t .down)
 
       -- a sample that is refused has a word that is high enough
-      high-sample : (i : ℕ) → i < b .samples → noTiming y (rowIn y b bs i) ≡ false → AtLeast (4 * (255 * s) - 2) bs (b .samples)
-      high-sample i h f = go (below-or-not (word i .y) (4 * (255 * s) - 2)) (below-or-not (word i .cb) (4 * (255 * s) - 2)) (below-or-not (word i .cr) (4 * (255 * s) - 2))
+      high-sample : (i : ℕ) → i < b .samples → noTiming y (rowIn y b bs i) ≡ false → AtLeast limit bs (b .samples)
+      high-sample i h f = go (below-or-not (word i .y) limit) (below-or-not (word i .cb) limit) (below-or-not (word i .cr) limit)
         where
-          go : (word i .y < 4 * (255 * s) - 2) ⊎ (4 * (255 * s) - 2 ≤ word i .y) → (word i .cb < 4 * (255 * s) - 2) ⊎ (4 * (255 * s) - 2 ≤ word i .cb)
-              → (word i .cr < 4 * (255 * s) - 2) ⊎ (4 * (255 * s) - 2 ≤ word i .cr) → AtLeast (4 * (255 * s) - 2) bs (b .samples)
+          go : (word i .y < limit) ⊎ (limit ≤ word i .y) → (word i .cb < limit) ⊎ (limit ≤ word i .cb)
+              → (word i .cr < limit) ⊎ (limit ≤ word i .cr) → AtLeast limit bs (b .samples)
           go (inr l) c r = record { sample = i; within = h; word = inl l }
           go (inl k) (inr l) r = record { sample = i; within = h; word = inr (inl l) }
           go (inl k) (inl c) (inr l) = record { sample = i; within = h; word = inr (inr l) }
@@ -164,10 +168,10 @@ module _ {m n s : ℕ} (t : Two m n s) where
               ) refl) in
               absurd (false≢true (sym f ∙ passes))
 
-      pub some-high : noTimingTo y (rowIn y b bs) (b .samples) ≡ false → AtLeast (4 * (255 * s) - 2) bs (b .samples)
+      pub some-high : noTimingTo y (rowIn y b bs) (b .samples) ≡ false → AtLeast limit bs (b .samples)
       some-high f = let found = some-timing y (rowIn y b bs) (b .samples) f in high-sample (found .0) (found .1) (found .2)
 
-      pub high-refused : AtLeast (4 * (255 * s) - 2) bs (b .samples) → noTimingTo y (rowIn y b bs) (b .samples) ≡ false
+      pub high-refused : AtLeast limit bs (b .samples) → noTimingTo y (rowIn y b bs) (b .samples) ≡ false
       high-refused a = is-false (noTimingTo y (rowIn y b bs) (b .samples)) contradiction
         where
           found : (v c r : Bool) → (not v && not c && not r) ≡ true → (v ≡ true) ⊎ ((c ≡ true) ⊎ (r ≡ true)) → ⊥
@@ -179,13 +183,9 @@ module _ {m n s : ℕ} (t : Two m n s) where
           found false false false f (inr (inr p)) = false≢true p
 
           contradiction : noTimingTo y (rowIn y b bs) (b .samples) ≡ true → ⊥
-          contradiction f =
-              let i = a .sample in
-              let v = video i (a .within) in
-              let none = no-timing-at y (rowIn y b bs) (b .samples) i f (a .within) in
-              found _ _ _ none (timing-of (a .word))
+          contradiction f = found _ _ _ (no-timing-at y (rowIn y b bs) (b .samples) (a .sample) f (a .within)) (timing-of (a .word))
             where
-              timing-of : (4 * (255 * s) - 2 ≤ word (a .sample) .y) ⊎ ((4 * (255 * s) - 2 ≤ word (a .sample) .cb) ⊎ (4 * (255 * s) - 2 ≤ word (a .sample) .cr))
+              timing-of : (limit ≤ word (a .sample) .y) ⊎ ((limit ≤ word (a .sample) .cb) ⊎ (limit ≤ word (a .sample) .cr))
                   → (timing y (rowIn y b bs (a .sample) .y) ≡ true) ⊎ ((timing y (rowIn y b bs (a .sample) .cb) ≡ true) ⊎ (timing y (rowIn y b bs (a .sample) .cr) ≡ true))
               timing-of (inl l) = inl (rw is (downward-timing-if (word (a .sample) .y) (rw is at (video (a .sample) (a .within) .0)) l))
               timing-of (inr (inl l)) = inr (inl (rw is (downward-timing-if (word (a .sample) .cb) (rw is at (video (a .sample) (a .within) .1)) l)))
@@ -208,9 +208,8 @@ module _ {m n s : ℕ} (t : Two m n s) where
 
       row-back : (i : ℕ) → i < b .samples → rowIn y above new i ≡ word i
       row-back i h =
-          let there = new-samples z bs b for-z i h in
-          let back = word-back in
-          ap (wordsIn z y) there ∙ rw is (λ k. record { y = back (word i .y) k; cb = back (word i .cb) k; cr = back (word i .cr) k })
+          ap (wordsIn z y) (new-samples z bs b for-z i h)
+          ∙ rw is (λ k. record { y = word-back (word i .y) k; cb = word-back (word i .cb) k; cr = word-back (word i .cr) k })
 
       back-row : (i : ℕ) → i < b .samples → noTiming y (rowIn y above new i) ≡ true
       back-row i h =

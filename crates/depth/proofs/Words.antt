@@ -28,6 +28,10 @@ timingAt s d = ltb d s || (leb (255 * s) d && ltb d (256 * s))
 abbrev pub videoAt : ℕ → Range
 videoAt s = record { low = s; high = 255 * s - 1 }
 
+-- video data at 4s without its two greatest words
+abbrev pub passingAt : ℕ → Range
+passingAt s = record { low = 4 * s; high = 255 * (4 * s) - 1 - 2 }
+
 pub no-timing : (s d : ℕ) → s ≤ d → d < 255 * s → timingAt s d ≡ false
 no-timing s d l h = rw (le-ltb d s l, lt-leb (255 * s) d h) refl
 
@@ -61,18 +65,15 @@ module _ (s : ℕ) (S : 0 < s) (w : ℕ) where
       implied true e = let v = upward-video e in sym (ap not (no-timing (4 * s) (4 * w) (v .0) (v .1)))
       implied false e = refl
 
-  pub passes-down : within (record { low = 4 * s; high = 255 * (4 * s) - 1 - 2 }) w ≡ (within (videoAt (4 * s)) w && not (timingAt s (INT w 4)))
+  pub passes-down : within (passingAt s) w ≡ (within (videoAt (4 * s)) w && not (timingAt s (INT w 4)))
   passes-down = go (within (videoAt (4 * s)) w) refl (below-or-not w (4 * (255 * s) - 2))
     where
-      less : Range
-      less = record { low = 4 * s; high = 255 * (4 * s) - 1 - 2 }
-
       go : (t : Bool) → within (videoAt (4 * s)) w ≡ t → (w < 4 * (255 * s) - 2) ⊎ (4 * (255 * s) - 2 ≤ w)
-          → within (record { low = 4 * s; high = 255 * (4 * s) - 1 - 2 }) w ≡ (t && not (timingAt s (INT w 4)))
+          → within (passingAt s) w ≡ (t && not (timingAt s (INT w 4)))
       go true e (inl h) =
           let v = downward-video e h in
           let b = in-range (videoAt (4 * s)) w e in
-          is-within (record { low = 4 * s; high = 255 * (4 * s) - 1 - 2 }) w (omega (arith, b .0)) (omega arith) ∙ sym (ap not (no-timing s (INT w 4) (v .0) (v .1)))
+          is-within (passingAt s) w (omega (arith, b .0)) (omega arith) ∙ sym (ap not (no-timing s (INT w 4) (v .0) (v .1)))
       go true e (inr h) =
           let b = in-range (videoAt (4 * s)) w e in
           let low = le-leb (4 * s) w (b .0) in
@@ -81,7 +82,7 @@ module _ (s : ℕ) (S : 0 < s) (w : ℕ) where
       go false e h = outside (below-or-not w (4 * s)) (below-or-not (255 * (4 * s) - 1) w)
         where
           outside : (w < 4 * s) ⊎ (4 * s ≤ w) → (255 * (4 * s) - 1 < w) ⊎ (w ≤ 255 * (4 * s) - 1)
-              → within (record { low = 4 * s; high = 255 * (4 * s) - 1 - 2 }) w ≡ false
+              → within (passingAt s) w ≡ false
           outside (inl a) b = rw (lt-leb (4 * s) w a) refl
           outside (inr a) (inl b) = rw (le-leb (4 * s) w a, lt-leb w (255 * (4 * s) - 1 - 2) (omega arith)) refl
           outside (inr a) (inr b) = absurd (false≢true (sym e ∙ is-within (videoAt (4 * s)) w a b))

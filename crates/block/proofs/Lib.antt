@@ -10,3 +10,4 @@ pub mod Stored
 pub mod Bytes
 pub mod ReadBack
 pub mod Answerable
+pub mod Told

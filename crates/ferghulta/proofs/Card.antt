@@ -10,18 +10,22 @@ use contract.Lifetimes.{Lfts}
 use denote.Ref.{RefT, now}
 use Rattle.exact.specs.Outcome.{Outcome}
 use Rattle.exact.specs.Outcome as outcome
+use Rattle.block.proofs.Told.{Row}
 use Rattle.depth.proofs.Claims as depth
 use Rattle.meter.specs.declared.Figures.{Figures}
 use Rattle.meter.specs.declared.Meter.{Meter}
 use Rattle.meter.proofs.Calls as meter
-use Rattle.meter.proofs.Calls.{Row}
 use Rattle.picture.specs.Book.{Answer, accepted, refused}
 use Rattle.picture.proofs.Calls.{Label, Card}
+use Rattle.reader.proofs.Calls as reader
 use Rattle.segmented.specs.declared.Order.{Order}
 use Rattle.segmented.specs.declared.Order.the-variants.{Segmented, Progressive}
 use Rattle.ferghulta.specs.declared.calls.BlockAnswer.{BlockAnswer}
 use Rattle.ferghulta.specs.declared.meter_calls.MeteredAnswer.{MeteredAnswer}
 use Rattle.ferghulta.specs.declared.stored_picture.StoredPicture.{StoredPicture}
+use Rattle.ferghulta.specs.declared.stored_reader.StoredReader.{StoredReader}
+use Rattle.ferghulta.specs.declared.reader_calls.ReaderAnswer.{ReaderAnswer}
+use Rattle.ferghulta.specs.declared.reader_calls.NextAnswer.{NextAnswer}
 use Rattle.ferghulta.specs.declared.picture_calls.PictureAnswer.{PictureAnswer}
 use Rattle.ferghulta.specs.declared.picture_calls.TotalAnswer.{TotalAnswer}
 use Rattle.ferghulta.proofs.picture_calls.ferghulta_new.Reads as new-call
@@ -32,6 +36,9 @@ use Rattle.ferghulta.proofs.picture_calls.ferghulta_total_bytes.Reads a
 use Rattle.ferghulta.proofs.calls.ferghulta_read_block.Reads as read-call
 use Rattle.ferghulta.proofs.meter_calls.ferghulta_read_metered.Reads as read-metered-call
 use Rattle.ferghulta.proofs.meter_calls.ferghulta_meter_figures.Reads as figures-call
+use Rattle.ferghulta.proofs.reader_calls.ferghulta_new_reader.Reads as new-reader-call
+use Rattle.ferghulta.proofs.reader_calls.ferghulta_open_reader.Reads as open-reader-call
+use Rattle.ferghulta.proofs.reader_calls.ferghulta_read_next.Reads as read-next-call
 use Rattle.ferghulta.proofs.depth_calls.ferghulta_change_depth.Reads as change-depth-call
 use Rattle.ferghulta.proofs.segmented_calls.ferghulta_to_segmented.Reads as to-segmented
 use Rattle.ferghulta.proofs.segmented_calls.ferghulta_to_progressive.Reads as to-progressive
@@ -150,3 +157,22 @@ pub data LabelReads : List ℕ → List ℕ → Outcome depth.Label → Type 0 w
 
 abbrev pub depthCard : depth.Card
 depthCard = record { Change = Changes; Read = LabelReads }
+
+-- ---- picture readers: the next call is given the reader that the answer has, and the field `phase` tells whether it is complete
+
+pub data ReaderOpens (k : StoredReader) (h : ℕ) : Outcome (Unit {0}) → StoredReader → Type 0 where
+  by-open-reader : (a : ReaderAnswer) (k′ : StoredReader) (h′ : ℕ) → open-reader-call.Post tt (k, (h, tt)) a (k′, (h′, tt)) → ReaderOpens k h (outcomeBy (a .refusal)) (a .reader)
+
+pub data NextReads (k : StoredReader) : List ℕ → List ℕ → Outcome Row → List ℕ → StoredReader → Type 0 where
+  by-read-next : (κs : Lfts 2) (bytes slice bytes′ slice′ : RefT (List ℕ)) (a : NextAnswer) (k′ : StoredReader) → read-next-call.Post κs (k, (bytes, (slice, tt))) a (k′, (bytes′, (slice′, tt)))
+      → NextReads k (now bytes) (now slice) (rowBy (a .block)) (now slice′) (a .reader)
+
+abbrev pub readerCard : reader.Card
+readerCard = record {
+  Reader = StoredReader;
+  New = λ k. new-reader-call.Post tt tt k tt;
+  Open = ReaderOpens;
+  Read = NextReads;
+  Block = BlockReads;
+  Complete = λ k t. t ≡ eqb (k .phase) 2;
+}

@@ -69,7 +69,7 @@ foretells (refusing r) e = ap totalBy e ∙ ap (λ (b : Bool). totalIf b (totalA
 totals-so : {w h : ℕ} {r : Outcome ℕ} → Totals w h r → r ≡ totalBytes w h
 totals-so {w} {h} (by-total-bytes a _ _ post) = foretells (total-answerable w h) post
 
-faithful : Faithful card
+pub faithful : Faithful card
 faithful = record {
   picture = pictureOf;
   bytes = λ k. refl;

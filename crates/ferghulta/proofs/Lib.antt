@@ -5,5 +5,7 @@ pub mod Histories
 pub mod Segmented
 pub mod Entering
 pub mod Metered
+pub mod Reading
+pub mod Readers
 pub mod Depths
 pub mod Theorem

@@ -14,11 +14,10 @@ use Rattle.systems.proofs.Answerable.{Answerable, values, refusing, never-0}
 use Rattle.block.specs.declared.Header.{Header}
 use Rattle.block.specs.Read.{headerOf, sliceAfter}
 use Rattle.block.proofs.Answerable.{reading-answerable}
+use Rattle.block.proofs.Told.{Row, told}
 use Rattle.meter.specs.declared.Figures.{Figures}
 use Rattle.meter.specs.declared.Meter.{Meter}
 use Rattle.meter.specs.Meter.{total, figures}
-use Rattle.meter.proofs.Calls.{Row}
-use Rattle.meter.proofs.Card.{told}
 use Rattle.meter.proofs.Claims.{Claimed}
 use Rattle.meter.proofs.Lists.{Follows, claimed}
 use Rattle.ferghulta.specs.declared.calls.BlockAnswer.{BlockAnswer}
@@ -26,7 +25,7 @@ use Rattle.ferghulta.specs.declared.meter_calls.MeteredAnswer.{MeteredAn
 use Rattle.ferghulta.specs.Answers.{blockAnswer, meteredAnswer}
 use Rattle.ferghulta.proofs.Card.{rowIf, rowBy, MeteredReads, by-read-metered, BlockReads, by-read, Shows, by-figures, meterCard}
 
-tells : {o : Outcome Header} {a : BlockAnswer} → Answerable o → a ≡ blockAnswer o → rowBy a ≡ told o
+pub tells : {o : Outcome Header} {a : BlockAnswer} → Answerable o → a ≡ blockAnswer o → rowBy a ≡ told o
 tells (values h) e = ap rowBy e
 tells (refusing r) e = ap rowBy e ∙ ap (λ (b : Bool). rowIf b (blockAnswer (outcome.refused (refusal r)))) (never-0 r)
 
@@ -37,7 +36,7 @@ reads-so (by-read-metered _ bytes slice _ _ a _ post) = record {
   meter = ap (λ (x : MeteredAnswer). x .meter) (post .0);
 }
 
-blocks-so : {bytes slice left : List ℕ} {o : Outcome Row} → BlockReads bytes slice o left → (o ≡ told (headerOf bytes (length slice))) × (left ≡ sliceAfter bytes slice)
+pub blocks-so : {bytes slice left : List ℕ} {o : Outcome Row} → BlockReads bytes slice o left → (o ≡ told (headerOf bytes (length slice))) × (left ≡ sliceAfter bytes slice)
 blocks-so (by-read _ bytes slice _ _ a post) = (tells (reading-answerable (now bytes) (length (now slice))) (post .0), post .1)
 
 shows-so : {m : Meter} {f : Figures} → Shows m f → f ≡ figures m

@@ -1,15 +1,23 @@
--- The exported calls' own statements and the claims on lists of them, on metered reads, on changing depths and on moving rows, in one.
+-- The exported calls' own statements and the claims on lists of them, on metered reads, on picture readers, on changing depths and on moving
+-- rows, in one.
 -- Assumes nothing.
 use Prim.Native.Nat.{ℕ}
-use mathlib.Core.List.{List}
+use mathlib.Core.Path.{_≡_}
+use mathlib.Core.List.{List, map}
 use Rattle.picture.specs.Book.{Call, Answer, fresh}
 use Rattle.picture.proofs.Calls.{Lent, Ran, History}
 use Rattle.picture.proofs.Claims.{Demanded, Counted}
 use Rattle.picture.proofs.Histories.{Lends, Happens, Answering, every-list-happens}
 use Rattle.depth.proofs.Claims as depth
 use Rattle.meter.proofs.Claims as meter
+use Rattle.reader.specs.Book.{answersFrom}
+use Rattle.reader.proofs.Calls as reader-calls
+use Rattle.reader.proofs.Claims as reader
+use Rattle.reader.proofs.Steps as reader-steps
 use Rattle.segmented.proofs.Claims.{Claimed}
 use Rattle.ferghulta.specs.declared.stored_picture.StoredPicture.{StoredPicture}
+use Rattle.ferghulta.specs.declared.stored_reader.StoredReader.{StoredReader}
+use Rattle.ferghulta.specs.StoredReader.{readerOf}
 use Rattle.ferghulta.proofs.picture_calls.ferghulta_new.Statement as new-statement
 use Rattle.ferghulta.proofs.picture_calls.ferghulta_new.Met as new-met
 use Rattle.ferghulta.proofs.picture_calls.ferghulta_open.Statement as open-statement
@@ -26,18 +34,25 @@ use Rattle.ferghulta.proofs.meter_calls.ferghulta_read_metered.Statemen
 use Rattle.ferghulta.proofs.meter_calls.ferghulta_read_metered.Met as read-metered-met
 use Rattle.ferghulta.proofs.meter_calls.ferghulta_meter_figures.Statement as figures-statement
 use Rattle.ferghulta.proofs.meter_calls.ferghulta_meter_figures.Met as figures-met
+use Rattle.ferghulta.proofs.reader_calls.ferghulta_new_reader.Statement as new-reader-statement
+use Rattle.ferghulta.proofs.reader_calls.ferghulta_new_reader.Met as new-reader-met
+use Rattle.ferghulta.proofs.reader_calls.ferghulta_open_reader.Statement as open-reader-statement
+use Rattle.ferghulta.proofs.reader_calls.ferghulta_open_reader.Met as open-reader-met
+use Rattle.ferghulta.proofs.reader_calls.ferghulta_read_next.Statement as read-next-statement
+use Rattle.ferghulta.proofs.reader_calls.ferghulta_read_next.Met as read-next-met
 use Rattle.ferghulta.proofs.depth_calls.ferghulta_change_depth.Statement as change-depth-statement
 use Rattle.ferghulta.proofs.depth_calls.ferghulta_change_depth.Met as change-depth-met
 use Rattle.ferghulta.proofs.segmented_calls.ferghulta_to_segmented.Statement as to-segmented-statement
 use Rattle.ferghulta.proofs.segmented_calls.ferghulta_to_segmented.Met as to-segmented-met
 use Rattle.ferghulta.proofs.segmented_calls.ferghulta_to_progressive.Statement as to-progressive-statement
 use Rattle.ferghulta.proofs.segmented_calls.ferghulta_to_progressive.Met as to-progressive-met
-use Rattle.ferghulta.proofs.Card.{card, meterCard, Moves, depthCard}
+use Rattle.ferghulta.proofs.Card.{card, meterCard, Moves, depthCard, readerCard}
 use Rattle.ferghulta.proofs.Exported.{stateAt, demand-3, from-any, bytes-counted, bytes-from-any}
 use Rattle.ferghulta.proofs.Histories.{answering}
 use Rattle.ferghulta.proofs.Metered.{metered}
 use Rattle.ferghulta.proofs.Segmented.{moving}
 use Rattle.ferghulta.proofs.Depths.{changed}
+use Rattle.ferghulta.proofs.Readers as readers
 
 -- each `Post` of the card is that of a contract which the routine meets
 pub record Theorem : Type 3 where
@@ -67,6 +82,14 @@ pub record Theorem : Type 3 where
   -- request 2026-09
   pub changes : {M : Type 1} → change-depth-statement.statement M
   pub depths : depth.Claimed depthCard
+  -- request 2026-10, from a new reader and from any eight bytes, and together with the picture's calls
+  pub new-reader : {M : Type 1} → new-reader-statement.statement M
+  pub opens-reader : {M : Type 1} → open-reader-statement.statement M
+  pub reads-next : {M : Type 1} → read-next-statement.statement M
+  pub readers : reader.Claimed readerCard
+  pub any-reader : {k l : StoredReader} {ms : List reader-calls.Made} → reader-calls.Ran readerCard k ms l
+      → map reader.answer ms ≡ answersFrom (reader-steps.stateOf (readerOf k .phase)) (map reader.call ms)
+  pub together : reader.Together card readerCard
 
 pub theorem : Theorem
 theorem = record {
@@ -90,4 +113,10 @@ theorem = record {
   moves = moving;
   changes = change-depth-met.met;
   depths = changed;
+  new-reader = new-reader-met.met;
+  opens-reader = open-reader-met.met;
+  reads-next = read-next-met.met;
+  readers = readers.in-turn;
+  any-reader = readers.from-any;
+  together = readers.returned;
 }

@@ -1,3 +1,4 @@
 pub mod Answers
 pub mod Stored
+pub mod StoredReader
 pub mod Version

@@ -1,6 +1,8 @@
 // The calls on single values and on blocks. An answer's refusal is 0 where the call was accepted; where it was refused, its other numbers are 0.
 ghost use mathlib.Core.Path.{_≡_};
 ghost use lib.ListN.{length};
+ghost use Rattle.exact.specs.Outcome.{refused};
+ghost use Rattle.systems.specs.Refusals.{refusal};
 ghost use Rattle.light.specs.Light.{codeOfLight, spanOfCode};
 ghost use Rattle.signals.specs.Signals.{signalCodes, codeSignals};
 ghost use Rattle.matrix.specs.declared.Encoding.the-variants.{Plain, Trim};
@@ -23,6 +25,7 @@ use signals::Quantised;
 use signals::Restored;
 use signals::Signals;
 use systems::Codes;
+use systems::Refusal;
 
 #[repr(C)]
 pub struct CodeAnswer {
@@ -243,12 +246,19 @@ pub extern "C" fn ferghulta_read_block(bytes: &[u8], codes: &mut [u16]) -> Block
                 samples: h.samples,
             }
         }
-        BlockRead::Refused(r) => BlockAnswer {
-            refusal: r.number(),
-            system: 0,
-            clips: Clips::NONE,
-            row: 0,
-            samples: 0,
-        },
+        BlockRead::Refused(r) => not_read(r),
+    }
+}
+
+// The answer where a block was refused.
+pub fn not_read(r: Refusal) -> BlockAnswer
+    ensures { λ a. ⌜ a ≡ blockAnswer (refused (refusal r)) ⌝ }
+{
+    BlockAnswer {
+        refusal: r.number(),
+        system: 0,
+        clips: Clips::NONE,
+        row: 0,
+        samples: 0,
     }
 }

@@ -3,6 +3,8 @@ mod calls;
 mod depth_calls;
 mod meter_calls;
 mod picture_calls;
+mod reader_calls;
 mod segmented_calls;
 mod stored_picture;
+mod stored_reader;
 mod version;

@@ -3,16 +3,9 @@
 use Prim.Native.Nat.{ℕ}
 use mathlib.Core.List.{List, [], _∷_}
 use Rattle.exact.specs.Outcome.{Outcome}
+use Rattle.block.proofs.Told.{Row}
 use Rattle.meter.specs.declared.Meter.{Meter}
 use Rattle.meter.specs.declared.Figures.{Figures}
-
--- what an accepted reading tells of a block
-pub record Row : Type 0 where
-  pub system : ℕ
-  pub row : ℕ
-  pub samples : ℕ
-  pub low : ℕ
-  pub high : ℕ
 
 -- a card, by what its calls do: each stands between what it was given and what came of it
 pub record Card : Type 1 where

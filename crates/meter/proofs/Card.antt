@@ -4,33 +4,21 @@ use Prim.Native.Nat.{ℕ}
 use mathlib.Core.List.{List}
 use contract.Lifetimes.{Lfts}
 use denote.Ref.{RefT, now}
-use Rattle.exact.specs.Outcome.{Outcome, accepted, refused}
-use Rattle.systems.specs.Systems.{number}
-use Rattle.block.specs.declared.Header.{Header}
-use Rattle.block.specs.declared.BlockRead.{BlockRead}
+use Rattle.exact.specs.Outcome.{Outcome}
 use Rattle.block.specs.Read.{headerOutcome}
-use Rattle.block.proofs.read_block.Reads as block-call
+use Rattle.block.proofs.Told.{Row, told, Blocks}
 use Rattle.meter.specs.declared.Meter.{Meter}
 use Rattle.meter.specs.declared.MeteredRead.{MeteredRead}
 use Rattle.meter.specs.declared.Figures.{Figures}
 use Rattle.meter.proofs.Meter.new.Reads as new-call
 use Rattle.meter.proofs.Meter.read.Reads as read-call
 use Rattle.meter.proofs.Meter.figures.Reads as figures-call
-use Rattle.meter.proofs.Calls.{Row, Card}
-
--- what a reading tells
-abbrev pub told : Outcome Header → Outcome Row
-told (accepted h) = accepted (record { system = number (h .system); row = h .row; samples = h .samples; low = h .clips .low; high = h .clips .high })
-told (refused n) = refused n
+use Rattle.meter.proofs.Calls.{Card}
 
 -- κs are the lifetimes of the two references, whatever they are
 pub data Reads (m : Meter) : List ℕ → List ℕ → Outcome Row → List ℕ → Meter → Type 0 where
   by-read : (κs : Lfts 2) (bytes slice bytes′ slice′ : RefT (List ℕ)) (r : MeteredRead) (m′ : Meter) → read-call.Post κs (m, (bytes, (slice, tt))) r (m′, (bytes′, (slice′, tt)))
       → Reads m (now bytes) (now slice) (told (headerOutcome (r .read))) (now slice′) (r .meter)
-
-pub data Blocks : List ℕ → List ℕ → Outcome Row → List ℕ → Type 0 where
-  by-read-block : (κs : Lfts 2) (bytes slice bytes′ slice′ : RefT (List ℕ)) (r : BlockRead) → block-call.Post κs (bytes, (slice, tt)) r (bytes′, (slice′, tt))
-      → Blocks (now bytes) (now slice) (told (headerOutcome r)) (now slice′)
 
 pub data Shows (m : Meter) (f : Figures) : Type 0 where
   by-figures : (m′ : Meter) → figures-call.Post tt (m, tt) f (m′, tt) → Shows m f

@@ -5,10 +5,11 @@ use mathlib.Core.Path.{_≡_}
 use mathlib.Core.List.{List, [], _∷_, _++_, map}
 use lib.ListN.{length, take, drop}
 use Rattle.exact.specs.Outcome.{Outcome, accepted, refused}
+use Rattle.block.proofs.Told.{Row}
 use Rattle.meter.specs.declared.Meter.{Meter}
 use Rattle.meter.specs.declared.Figures.{Figures}
 use Rattle.meter.specs.Meter.{total, kept}
-use Rattle.meter.proofs.Calls.{Row, Card, Read, Ran}
+use Rattle.meter.proofs.Calls.{Card, Read, Ran}
 
 -- a count of each accepted read, in order; a refused one enters nothing
 abbrev pub entry : (Row → ℕ) → Outcome Row → List ℕ

@@ -12,11 +12,12 @@ use Rattle.matrix.specs.declared.Clips.{Clips}
 use Rattle.block.specs.declared.Header.{Header}
 use Rattle.block.specs.Read.{headerOf, sliceBy, sliceAfter}
 use Rattle.block.proofs.Answerable.{read-for}
+use Rattle.block.proofs.Told.{Row, told, Blocks, blocks-so}
 use Rattle.meter.specs.declared.Meter.{Meter}
 use Rattle.meter.specs.declared.Figures.{Figures}
 use Rattle.meter.specs.Meter.{total, empty, whole, kept, entered, metering, shown, figures}
-use Rattle.meter.proofs.Calls.{Row, Card, Read, Ran, ends, after}
-use Rattle.meter.proofs.Card.{told, Reads, by-read, Blocks, by-read-block, Shows, by-figures, card}
+use Rattle.meter.proofs.Calls.{Card, Read, Ran, ends, after}
+use Rattle.meter.proofs.Card.{Reads, by-read, Shows, by-figures, card}
 use Rattle.meter.proofs.Claims.{entry, entries, lows, highs, latest, over, Arrays, held, heldLows, heldHighs, Given, given, Claimed}
 use Rattle.meter.proofs.Turns.{Whole, whole-parts, parts-whole, kept-whole, InTurn, in-turn, turn-test, next-turn, at-most-64}
 use Rattle.meter.proofs.Windows.{latest-few, held-length, held-total, held-next}
@@ -150,9 +151,6 @@ module _ {card : Card} (does : Faithful card) where
 
 reads-so : {m m′ : Meter} {bytes slice left : List ℕ} {o : Outcome Row} → Reads m bytes slice o left m′ → Follows m bytes slice o left m′
 reads-so (by-read _ _ _ _ _ r _ post) = record { answer = ap told (post .0); slice-left = post .1 .0; meter = post .1 .1 }
-
-blocks-so : {bytes slice left : List ℕ} {o : Outcome Row} → Blocks bytes slice o left → (o ≡ told (headerOf bytes (length slice))) × (left ≡ sliceAfter bytes slice)
-blocks-so (by-read-block _ _ _ _ _ r post) = (ap told (post .0), post .1)
 
 shows-so : {m : Meter} {f : Figures} → Shows m f → f ≡ figures m
 shows-so (by-figures _ post) = post

@@ -108,7 +108,8 @@ module _ {card : Card} {p p′ q : Picture} {c : Call} {answer : Answer} {cs : L
   unfolding acceptedRows Unchanged
   row-then u b k = then (u, k .demanded .unchanged) (blocks-append b (k .demanded .blocks)) k
 
-in-step : {p p′ : Picture} {o : Outcome Picture} {c : Call} {answer : Answer} → Follows p o answer p′ → StepsTo p c o → InStep p c answer p′
+-- the step that a call made
+pub in-step : {p p′ : Picture} {o : Outcome Picture} {c : Call} {answer : Answer} → Follows p o answer p′ → StepsTo p c o → InStep p c answer p′
 in-step s t = rw (s .same, s .next) t
 
 -- a call on a picture is answered as the one on its phase
@@ -181,7 +182,7 @@ reads-so (by-read-block _ _ _ _ _ r post) = (ap labelOf (post .0), post .1)
 totals-so : {w h : ℕ} {r : Outcome ℕ} → Totals w h r → r ≡ totalBytes w h
 totals-so (by-total-bytes r _ _ post) = post
 
-faithful : Faithful card
+pub faithful : Faithful card
 faithful = record {
   picture = λ p. p;
   bytes = λ p. refl;

@@ -43,14 +43,15 @@ pub record Happens (card : Card) (cs : List Call) (bs : List (List ℕ)) : Type 
   pub lent : before ls ≡ bs
 
 module _ {card : Card} (calls : Answering card) where
-  record Runs (p : card .Picture) (cs : List Call) (bs : List (List ℕ)) : Type 0 where
-    ans : List Answer
-    ls : List Lent
-    q : card .Picture
-    ran : Ran card p cs ans ls q
-    lent : before ls ≡ bs
+  -- from any picture
+  pub record Runs (p : card .Picture) (cs : List Call) (bs : List (List ℕ)) : Type 0 where
+    pub ans : List Answer
+    pub ls : List Lent
+    pub q : card .Picture
+    pub ran : Ran card p cs ans ls q
+    pub lent : before ls ≡ bs
 
-  runs : {cs : List Call} {bs : List (List ℕ)} → Lends cs bs → (p : card .Picture) → Runs p cs bs
+  pub runs : {cs : List Call} {bs : List (List ℕ)} → Lends cs bs → (p : card .Picture) → Runs p cs bs
   runs none p = record { ans = []; ls = []; q = p; ran = ends; lent = refl }
   runs (at-open {n = n} {w = w} {h = h} rest) p =
       let a = calls .opens p n w h in

@@ -56,3 +56,6 @@ never-0 refusal.RowsMissing = refl
 never-0 refusal.Length = refl
 never-0 refusal.Target = refl
 never-0 refusal.Timing = refl
+never-0 refusal.Turn = refl
+never-0 refusal.Unlike = refl
+never-0 refusal.NotReading = refl

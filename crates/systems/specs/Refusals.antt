@@ -2,7 +2,7 @@
 -- Definitions only.
 use Prim.Native.Nat.{ℕ}
 use Rattle.systems.specs.declared.refusal.Refusal.{Refusal}
-use Rattle.systems.specs.declared.refusal.Refusal.the-variants.{System, Width, Height, Lights, Output, Code, Signal, BlockEnd, Count, RowNumber, BytesAfter, AlreadyOpen, NotOpen, AllRows, RowsMissing, Length, Target, Timing}
+use Rattle.systems.specs.declared.refusal.Refusal.the-variants.{System, Width, Height, Lights, Output, Code, Signal, BlockEnd, Count, RowNumber, BytesAfter, AlreadyOpen, NotOpen, AllRows, RowsMissing, Length, Target, Timing, Turn, Unlike, NotReading}
 
 abbrev pub refusal : Refusal → ℕ
 refusal System = 1
@@ -23,3 +23,6 @@ refusal RowsMissing = 24
 refusal Length = 31
 refusal Target = 32
 refusal Timing = 33
+refusal Turn = 34
+refusal Unlike = 35
+refusal NotReading = 36

@@ -39,6 +39,12 @@ pub enum Refusal {
     Target,
     // 33 (request 2026-09): word of the result in the timing codes.
     Timing,
+    // 34 (request 2026-10): block's row number not the next one.
+    Turn,
+    // 35 (request 2026-10): block's system or count unlike the first one's.
+    Unlike,
+    // 36 (request 2026-10): block before opening or when complete.
+    NotReading,
 }
 
 impl Refusal {
@@ -64,6 +70,9 @@ impl Refusal {
             Refusal::Length => 31,
             Refusal::Target => 32,
             Refusal::Timing => 33,
+            Refusal::Turn => 34,
+            Refusal::Unlike => 35,
+            Refusal::NotReading => 36,
         }
     }
 }

@@ -1,6 +1,4 @@
 use mathlib.Core.Path.{ap, sym, _∙_}
-use Prim.Native.Nat.{ℕ}
-use Rattle.exact.specs.Outcome.{refused}
 use Rattle.block.specs.Read.{headerOutcome}
 use Rattle.ferghulta.specs.Answers.{blockAnswer}
 use borrow.Author.Needs.{needs}
@@ -15,7 +13,7 @@ returns c =
 returns-2 : tie.Need-returns-2
 returns-2 c =
     let read = c .before .before .before .before .before .before .read-block .ensures in
-    (ap (λ (n : ℕ). blockAnswer (refused n)) (c .number2 .ensures) ∙ ap blockAnswer (sym (ap headerOutcome (c .before .before .r .given .1)) ∙ read .0), read .1)
+    (c .not-read .ensures ∙ ap blockAnswer (sym (ap headerOutcome (c .before .before .r .given .1)) ∙ read .0), read .1)
 
 pub ferghulta-read-block-spec : {M : Type 1} → statement M
 ferghulta-read-block-spec =

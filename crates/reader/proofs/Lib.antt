@@ -1,0 +1,11 @@
+pub mod Turns
+pub mod Calls
+pub mod Card
+pub mod Claims
+pub mod Steps
+pub mod Rows
+pub mod Lists
+pub mod Sent
+pub mod Return
+pub mod Resume
+pub mod Theorem

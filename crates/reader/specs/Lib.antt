@@ -1,0 +1,3 @@
+pub mod Reader
+pub mod Inner
+pub mod Book

@@ -4,7 +4,7 @@ use block::BlockRead;
 use block::Header;
 use block::Judged;
 use block::Judgement;
-use block::judge;
+use block::all_in;
 use block::read_block;
 use block::walk;
 use systems::MOST_ROWS;
@@ -16,9 +16,9 @@ ghost use mathlib.Core.Bool.{_&&_};
 ghost use Prim.Native.Nat.{_≤_};
 ghost use lib.Dec.{leb};
 ghost use lib.ListN.{length};
-ghost use Rattle.exact.specs.Outcome.{refused};
+ghost use Rattle.exact.specs.Outcome.{accepted, refused};
 ghost use Rattle.systems.specs.Refusals.{refusal};
-ghost use Rattle.block.specs.Read.{headerOf};
+ghost use Rattle.block.specs.Read.{walk, headerOf};
 ghost use Rattle.reader.specs.declared.Phase.the-variants.{Unopened};
 ghost use Rattle.reader.specs.Reader.{at, alike, after, inTurn, opening, taking, heardOf, sliceAfter, known, proper, resumed, readerOutcome, takenOutcome};
 ghost use Rattle.reader.specs.Inner.{beforeTurn, turnFrom, turnOf};
@@ -138,7 +138,7 @@ fn turn_from(p: Progress, bytes: &[u8], room: usize) -> Change
     match walk(bytes) {
         Judgement::Block(b) => match in_turn(p, b) {
             Change::To(reader) => Change::To(reader),
-            Change::Refused(r) => Change::Refused(before_turn(bytes, room, r)),
+            Change::Refused(r) => Change::Refused(before_turn(b, bytes, room, r)),
         },
         Judgement::Refused(r) => Change::Refused(r),
     }
@@ -162,14 +162,16 @@ fn in_turn(p: Progress, b: Judged) -> Change
     })
 }
 
-// The words and the room are tested before a block's turn refuses it.
-fn before_turn(bytes: &[u8], room: usize, turn: Refusal) -> Refusal
+// The words and the room of a walked block are tested before its turn refuses it.
+fn before_turn(b: Judged, bytes: &[u8], room: usize, turn: Refusal) -> Refusal
+    requires { ⌜ walk (now bytes) ≡ accepted b ⌝ }
     ensures { λ r. ⌜ refused (refusal r) ≡ beforeTurn (headerOf (now (bytes .entry)) room) (refusal turn) ⌝ }
 {
-    match judge(bytes) {
-        Judgement::Block(b) => { if b.fits(room) { turn } else { Refusal::Output } }
-        Judgement::Refused(r) => r,
+    let system = b.system;
+    if !all_in(system.video_data(), bytes, b.samples) {
+        return Refusal::Code;
     }
+    if b.fits(room) { turn } else { Refusal::Output }
 }
 
 fn alike(format: Format, system: System, samples: u16) -> bool

@@ -1,27 +1,35 @@
-use mathlib.Core.Path.{_≡_, sym, ap, _∙_}
+use mathlib.Core.Path.{_≡_, sym, _∙_}
+use native.Mathlib.Omega.{arith}
+use borrow.Author.Tests.{not-true, not-false}
 use denote.Ref.{now}
-use Rattle.exact.specs.Outcome.{accepted}
-use Rattle.block.specs.Read.{judge, headerOf, judgedOutcome}
-use Rattle.block.proofs.Reading.{judge-refused}
+use Rattle.block.specs.Read.{wordsOk, judge, headerOf}
+use Rattle.block.proofs.Walking.{walk-accepted}
 use borrow.Author.Needs.{needs}
 use Rattle.reader.proofs.before_turn.Statement.{statement}
 use Rattle.reader.proofs.before_turn.Tie as tie
 
-judged : (c : tie.After-b) → judge (now (c .before .before .before .before .args .bytes)) ≡ accepted (c .b .given .0 .0)
-judged c = sym (c .before .before .judge .ensures) ∙ ap judgedOutcome (c .b .given .1)
+all-in-requires : tie.Need-all-in-requires
+all-in-requires c κs = let shape = walk-accepted _ _ (c .before .before .pre) .0 in (omega (arith, shape .size), shape .most)
+
+-- the test of the words
+words : (c : tie.After-all-in) → wordsOk (c .before .before .before .args .b) (now (c .before .before .before .args .bytes)) ≡ c .all-in .result
+words c = rw (c .before .video-data .ensures) at (sym (c .all-in .ensures))
 
 returns : tie.Need-returns
-unfolding headerOf
-returns c = rw (judged (c .before .before .before), sym (c .before .fits2 .ensures) ∙ c .if1 .taken)
+unfolding headerOf judge
+returns c = rw (c .before .before .before .before .pre, words (c .before) ∙ not-true _ (c .if1 .taken))
 
 returns-2 : tie.Need-returns-2
-unfolding headerOf
-returns-2 c = rw (judged (c .before .before .before), sym (c .before .fits2 .ensures) ∙ c .if1 .left)
+unfolding headerOf judge
+returns-2 c =
+    let tested = c .before .before in
+    rw (tested .before .before .before .before .pre, words (tested .before) ∙ not-false _ (tested .if1 .left), sym (c .before .fits2 .ensures) ∙ c .if2 .taken)
 
 returns-3 : tie.Need-returns-3
-returns-3 c = rw (judge-refused _ _ _ (sym (c .before .before .before .judge .ensures) ∙ ap judgedOutcome (c .before .r .given .1)))
+unfolding headerOf judge
+returns-3 c =
+    let tested = c .before .before in
+    rw (tested .before .before .before .before .pre, words (tested .before) ∙ not-false _ (tested .if1 .left), sym (c .before .fits2 .ensures) ∙ c .if2 .left)
 
 pub before-turn-spec : {M : Type 1} → statement M
-before-turn-spec =
-    tie.close
-    (tie.spec (λ c κs. search needs) (λ c. search needs) (λ c κs. search needs) (λ c. search needs) returns returns-2 returns-3)
+before-turn-spec = tie.close (tie.spec (λ c κs. search needs) all-in-requires returns (λ c κs. search needs) returns-2 returns-3)

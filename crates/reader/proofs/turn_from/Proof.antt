@@ -15,6 +15,9 @@ walked c = sym (c .before .before .walk .ensures) ∙ ap judgedOutcome (c .b .gi
 in-turn-requires : tie.Need-in-turn-requires
 in-turn-requires c κs = walk-accepted _ _ (walked (c .before)) .1
 
+before-turn-requires : tie.Need-before-turn-requires
+before-turn-requires c κs = walked (c .before .before .before .before .before)
+
 returns : tie.Need-returns
 unfolding turnFrom
 returns c =
@@ -35,5 +38,5 @@ returns-3 c = rw (sym (c .before .before .before .walk .ensures) ∙ ap judgedOu
 pub turn-from-spec : {M : Type 1} → statement M
 turn-from-spec =
     tie.close
-    (tie.spec (λ c κs. search needs) (λ c. search needs) in-turn-requires (λ c. search needs) (λ c. search needs) (λ c κs. search needs)
+    (tie.spec (λ c κs. search needs) (λ c. search needs) in-turn-requires (λ c. search needs) (λ c. search needs) before-turn-requires
     (λ c. search needs) returns returns-2 returns-3)

@@ -137,8 +137,8 @@ pub fn damage(bytes: &mut Vec<u8>, width: usize, random: &mut Pseudorandom) {
 
 pub const FAULTS: u32 = 8;
 
-/// Gives a whole block those faults whose bit is set: a last sample that is not video data, another count in a section, row number or
-/// system, an early end, bytes after the end.
+/// Gives a whole block those faults whose bit is set: a last sample that is not video data, another count in a section, row number
+/// or system, an early end, bytes after the end.
 pub fn spoil(block: &mut Vec<u8>, system: &System, width: usize, faults: u32, random: &mut Pseudorandom) {
     let has = |fault: u32| faults >> fault & 1 == 1;
     let s = system.scale as u16;

@@ -2,9 +2,10 @@
  * makes.
  *
  * The first byte says how many places are lent beside those that the first count asks for, and how many bytes for the other depth
- * beside the block's own; the third says the target, and the fourth what the reader asks for. The rest is the block; where the second
- * byte is odd it is stretched: the words after the first count are repeated to fill three sections of that count. Its upper bits say
- * how many rows the meter has, whose counts are the bytes of the block again and again; from 66 on the whole meter is.
+ * beside the block's own; the third says the target, and the fourth what the reader asks for. The rest is the block; where the
+ * second byte is odd it is stretched: the words after the first count are repeated to fill three sections of that count, and where
+ * its second bit is set too the last word is at the end of video data. Its upper bits say how many rows the meter has, whose counts
+ * are the bytes of the block again and again; from 66 on the whole meter is.
  */
 #include "harness.h"
 
@@ -42,6 +43,13 @@ static size_t stretch(const uint8_t *block, size_t length, uint8_t *to)
             to[at++] = block[5 + (byte + section * words / 3) % words];
     }
     return at;
+}
+
+/* One of the last four words of video data: at the other depth some of them are timing codes. */
+static void end_with_last_word(uint8_t *block, size_t length, uint8_t which)
+{
+    uint16_t s = block[0] == 1 ? 1 : block[0] == 4 ? 16 : 4, word = (uint16_t)(255 * s - 1 - which % 4);
+    memcpy(block + length - 2, &word, sizeof word);
 }
 
 /* Up to 65 rows the parts agree, but for 65 rows themselves. */
@@ -186,6 +194,8 @@ int LLVMFuzzerTestOneInput(const uint8_t *data, size_t size)
     size_t length = size - 4;
     if (data[1] % 2 == 1 && length > 5) {
         length = stretch(block, length, stretched);
+        if (data[1] % 4 == 3)
+            end_with_last_word(stretched, length, data[0]);
         block = stretched;
     }
     size_t places = places_for((int8_t)data[0], first_count(block, length));

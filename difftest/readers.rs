@@ -422,11 +422,10 @@ fn every_row(tally: &mut Tally, effort: &Effort, random: &mut Pseudorandom) {
 fn every_kind(tally: &mut Tally, effort: &Effort, random: &mut Pseudorandom) {
     let mut pairs: Vec<(usize, usize)> = (1..=9).flat_map(|one| (1..=9).map(move |other| (one, other))).collect();
     pairs.extend([(1, 257), (257, 1), (256, 512), (3, 515), (258, 259), (4096, 1), (4097, 1), (7680, 7424), (7680, 7679)]);
-    for (first, other) in pairs.into_iter().step_by(effort.stride.min(5)) {
-        for (one, system) in SYSTEMS.iter().flat_map(|one| SYSTEMS.iter().map(move |system| (one, system))) {
+    for (first, width) in pairs.into_iter().step_by(effort.stride.min(5)) {
+        for (kept, system) in SYSTEMS.iter().flat_map(|kept| SYSTEMS.iter().map(move |system| (kept, system))) {
             let number = random.within(1, 4318);
-            let reader = reading(4320, number, (one.number as u8, first as u16));
-            let width = other;
+            let reader = reading(4320, number, (kept.number as u8, first as u16));
             let due = Due { system, width, number };
             read_one(tally, reader, &due.whole(random), random);
         }
@@ -455,8 +454,8 @@ fn widest(tally: &mut Tally, effort: &Effort, random: &mut Pseudorandom) {
     }
 }
 
-/// All sets of faults of a block, each with a reader without a row, with some and before the last, and with one that is not reading:
-/// whatever is tested first has to be told.
+/// All sets of faults of a block, each with a reader without a row, with some and before the last, and with one that is not
+/// reading: whatever is tested first has to be told.
 fn faults_together(tally: &mut Tally, effort: &Effort, random: &mut Pseudorandom) {
     for faults in (0..1 << FAULTS).step_by(effort.stride) {
         let kind = (random.within(1, 4) as u8, any_narrow(random) as u16);
@@ -621,7 +620,8 @@ impl List {
     }
 }
 
-/// Every row of a picture of this kind, with a refused one before every eighth; then the first and one more, and a second picture's.
+/// Every row of a picture of this kind, with a refused one before every eighth; then one more, the first again, and a second
+/// picture's.
 fn whole_picture(tallies: &mut Tallies, height: u32, system: &'static System, width: usize, random: &mut Pseudorandom) {
     let mut list = List::begin(Reader::NEW, 3 * width + 9, random);
     let due = |number: u32| Due {

@@ -404,10 +404,10 @@ FERGHULTA_MUST_USE FERGHULTA_NONNULL static __inline uint32_t ferghulta_close_of
 enum ferghulta_reader_phase { FERGHULTA_UNOPENED = 0, FERGHULTA_READING = 1, FERGHULTA_COMPLETE = 2 };
 
 /* A reader in eight bytes, which the caller keeps: a call is given it and answers with the reader that the next call is
- * to be given. Read its fields freely, and let the calls change them. While it is not reading the other fields are 0
- * but for the phase, and all zero is a reader that is not opened; of a reader that is not reading the calls read the
- * phase alone. A value that no call gives (another phase, or reading with a number out of its range, with a `next` that
- * is not below the height, or with only some of system, width and `next` at 0) is taken as not opened. */
+ * to be given. Read its fields freely, and let the calls change them. While it is not reading all fields but the phase
+ * are 0, and all zero is a reader that is not opened; of a reader that is not reading the calls read the phase alone. A
+ * value that no call gives (another phase, or reading with a number out of its range, with a `next` that is not below
+ * the height, or with some of system, width and `next` at 0 and not all) is taken as not opened. */
 typedef struct ferghulta_reader {
     uint8_t phase, system;        /* system and width: of the first block accepted since opening, 0 before it */
     uint16_t width, height, next; /* next: the number of the row that is due, which is how many were accepted */

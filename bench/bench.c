@@ -11,7 +11,7 @@
 #include "contestants.h"
 #include "depths.h"
 #include "exact.h"
-#include "meters.h"
+#include "readings.h"
 #include "segments.h"
 
 // What is done just before a contestant is timed: nothing, so that it meets the rows as its turn finds them; a run of its own, so
@@ -218,16 +218,19 @@ static void time_single_calls(int rounds)
     }
 }
 
-static void time_meters(int rounds)
+// Blocks read with a meter and through a reader, each beside the same blocks read by themselves.
+static void time_all_readings(int rounds)
 {
     static const struct set OF[] = {{"in turn", 1, 4096, NOTHING}, {"in turn", 1920, 256, NOTHING}, {"in turn", 7680, 64, NOTHING}};
-    printf("\nns a block, with a meter and without\n%-8s%-8s%12s%14s%8s\n", "width", "system", "read_block", "read_metered", "ratio");
+    printf("\nns a block, by itself, with a meter and through a reader\n");
+    printf("%-8s%-8s%12s%14s%8s%12s%8s\n", "width", "system", "read_block", "read_metered", "ratio", "read_next", "ratio");
     for (size_t i = 0; i < sizeof OF / sizeof *OF; i++)
         for (int s = 0; s < SYSTEM_COUNT; s++) {
             struct reading r[READINGS];
             time_readings(&SYSTEMS[s], OF[i].width, OF[i].count, rounds, r);
-            printf("%-8zu%-8u%12.1f%14.1f%8.3f\n", OF[i].width, (unsigned)SYSTEMS[s].number, r[0].nanoseconds, r[1].nanoseconds,
-                   r[1].nanoseconds / r[0].nanoseconds);
+            double plain = r[0].nanoseconds, metered = r[1].nanoseconds, in_turn = r[2].nanoseconds;
+            printf("%-8zu%-8u%12.1f%14.1f%8.3f%12.1f%8.3f\n", OF[i].width, (unsigned)SYSTEMS[s].number, plain, metered,
+                   metered / plain, in_turn, in_turn / plain);
             for (int n = 0; n < READINGS; n++)
                 put_csv("read", &OF[i], SYSTEMS[s].number, "read", r[n].name, r[n].nanoseconds);
         }
@@ -323,7 +326,7 @@ int main(int argc, char **argv)
     time_all(rounds);
     compare_all(&COMPARED);
     time_single_calls(rounds);
-    time_meters(rounds);
+    time_all_readings(rounds);
     time_segments(rounds);
     time_depths(rounds);
     if (csv && fclose(csv))

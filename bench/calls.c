@@ -135,6 +135,16 @@ static void meter_figures(const struct rows *rows)
     sink = sum;
 }
 
+// Codes are heights that a reader is opened with, too.
+static void open_reader(const struct rows *rows)
+{
+    const ferghulta_reader reader = ferghulta_new_reader();
+    uint32_t sum = 0;
+    for (size_t i = 0; i < ARGUMENTS; i++)
+        sum += ferghulta_open_reader(reader, rows->codes[0][i]).reader.height;
+    sink = sum;
+}
+
 static void row_of_one(const struct rows *rows)
 {
     our_rows((struct rows *)rows).run((void *)rows);
@@ -157,7 +167,7 @@ void time_calls(const struct system *system, int rounds, struct call calls[CALLS
         {"words_of_codes", words_of_codes},      {"trimmed_words_of_codes", trimmed_words_of_codes},
         {"codes_of_words", codes_of_words},      {"level_of_code", level_of_code},
         {"level_of_difference", level_of_difference}, {"total_bytes", total_bytes},
-        {"meter_figures", meter_figures},
+        {"meter_figures", meter_figures},        {"open_reader", open_reader},
     };
     struct rows *rows = rows_new(system, 1, ARGUMENTS);
     for (int c = 0; c < CALLS; c++)

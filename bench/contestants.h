@@ -19,7 +19,8 @@ enum { CONTESTANTS = 8 };
 
 struct contestant our_rows(struct rows *rows);
 struct contestant our_reads(struct rows *rows);
-struct contestant our_metered_reads(struct rows *rows); // beside our_reads alone
+struct contestant our_metered_reads(struct rows *rows); // beside our_reads alone, as the next
+struct contestant our_reads_in_turn(struct rows *rows);
 
 struct contestant zimg_of_light(struct rows *rows, const char *name, int approximate_gamma);
 struct contestant zimg_of_codes(struct rows *rows, const char *name);

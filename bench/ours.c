@@ -49,6 +49,18 @@ static void read_metered_blocks(void *state)
         stop("a metered block was refused");
 }
 
+static void read_blocks_in_turn(void *state)
+{
+    struct rows *rows = state;
+    size_t codes = FERGHULTA_ROW_CODES(rows->width), bytes = FERGHULTA_BLOCK_BYTES(rows->width);
+    ferghulta_reader reader = ferghulta_open_reader(ferghulta_new_reader(), (uint32_t)rows->count).reader;
+    uint32_t refusals = 0;
+    for (size_t row = 0; row < rows->count; row++)
+        refusals |= ferghulta_read_next_of(&reader, rows->blocks + row * bytes, bytes, rows->read + row * codes, codes).refusal;
+    if (refusals || reader.phase != FERGHULTA_COMPLETE)
+        stop("a block was refused in turn");
+}
+
 static void collect_codes(void *state)
 {
     struct rows *rows = state;
@@ -75,4 +87,9 @@ struct contestant our_reads(struct rows *rows)
 struct contestant our_metered_reads(struct rows *rows)
 {
     return (struct contestant){WORDS_TO_CODES, "ours with a meter", read_metered_blocks, collect_codes, nothing, rows};
+}
+
+struct contestant our_reads_in_turn(struct rows *rows)
+{
+    return (struct contestant){WORDS_TO_CODES, "ours through a reader", read_blocks_in_turn, collect_codes, nothing, rows};
 }

@@ -14,7 +14,7 @@ DEFAULT, WIDEST = "zimg", "zimg 64-byte vectors"
 # What is asked of one run at width 7680, and of moving rows and changing their depth beside memcpy.
 LEAST_FASTER, MOST_SLOWER = 4, 4
 ROW_BYTES, MOST_MOVING = (11529, 46089), 2
-METERED_WIDTHS = (1, 1920, 7680)
+READ_WIDTHS = (1, 1920, 7680)
 TARGETS, MOST_CHANGING = {1: 2, 2: 1, 3: 4, 4: 3}, 4
 
 
@@ -90,11 +90,12 @@ def call_table(f):
     return table(["ns a call", *(f"system {s}" for s in SYSTEMS)], lines)
 
 
-def meter_lines(f):
-    for width in METERED_WIDTHS:
+def reading_lines(f):
+    for width in READ_WIDTHS:
         for system in SYSTEMS:
-            plain, metered = (f.read(width, system, name) for name in ("read_block", "read_metered"))
-            yield [str(width), str(system), f"{plain:.1f}", f"{metered:.1f}", f"{metered / plain:.3f}"]
+            plain, *others = (f.read(width, system, name) for name in ("read_block", "read_metered", "read_next"))
+            beside = [text for other in others for text in (f"{other:.1f}", f"{other / plain:.3f}")]
+            yield [str(width), str(system), f"{plain:.1f}", *beside]
 
 
 def move_lines(f):
@@ -153,8 +154,8 @@ def report(folder):
         "### Targets, at width 7680", table(["asked", "rows from", "ratios of the systems", "result"], list(target_lines(f))),
         "### Words and codes that are not exact (and the worst distance)", accuracy_table(f),
         "### Single calls", call_table(f),
-        "### Reading with a meter, ns a block",
-        table(["width", "system", "`read_block`", "`read_metered`", "metered / plain"], list(meter_lines(f))),
+        "### Reading with a meter and through a reader, ns a block",
+        table(["width", "system", "`read_block`", "`read_metered`", "/ plain", "`read_next`", "/ plain"], list(reading_lines(f))),
         f"### Segmented frames, ms for 1080 rows (asked: at most {MOST_MOVING} times the time of memcpy)",
         table(["call", "row bytes", "ours", "memcpy", "ours / memcpy", "result"], list(move_lines(f))),
         f"### Depth change, ns a block of 7680 samples (asked: at most {MOST_CHANGING} times the time of memcpy)",

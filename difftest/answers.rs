@@ -132,6 +132,30 @@ pub struct TotalAnswer {
     pub bytes: u32,
 }
 
+#[repr(C)]
+#[derive(Clone, Copy, Debug, PartialEq)]
+pub struct Reader {
+    pub phase: u8,
+    pub system: u8,
+    pub width: u16,
+    pub height: u16,
+    pub next: u16,
+}
+
+#[repr(C)]
+#[derive(Clone, Copy, Debug, PartialEq)]
+pub struct ReaderAnswer {
+    pub refusal: u32,
+    pub reader: Reader,
+}
+
+#[repr(C)]
+#[derive(Clone, Copy, Debug, PartialEq)]
+pub struct NextAnswer {
+    pub reader: Reader,
+    pub block: BlockAnswer,
+}
+
 // The header's layout: no byte of a picture or of its answer is padding.
 const _: () = assert!(size_of::<Picture>() == 12 && size_of::<PictureAnswer>() == 16 && size_of::<TotalAnswer>() == 8);
 // Nor is one between the clips and their neighbours.
@@ -141,6 +165,9 @@ const _: () = assert!(offset_of!(BlockAnswer, low) == 8 && offset_of!(BlockAnswe
 // Nor is one of a meter, its answer or its figures.
 const _: () = assert!(size_of::<Meter>() == 272 && size_of::<MeteredAnswer>() == 288 && size_of::<FiguresAnswer>() == 12);
 const _: () = assert!(offset_of!(Meter, low) == 128 && offset_of!(Meter, highs) == 132 && offset_of!(Meter, place) == 264);
+// Nor is one of a reader or its answers.
+const _: () = assert!(size_of::<Reader>() == 8 && size_of::<ReaderAnswer>() == 12 && size_of::<NextAnswer>() == 24);
+const _: () = assert!(offset_of!(Reader, width) == 2 && offset_of!(Reader, next) == 6 && offset_of!(NextAnswer, block) == 8);
 
 /// The refusal's number, or 0, and the values, or zeros.
 fn parts<T: Default>(outcome: Outcome<T>) -> (u32, T) {
@@ -446,5 +473,91 @@ impl PictureAnswer {
             Err(refusal) => (refusal, given),
         };
         PictureAnswer { refusal, picture }
+    }
+}
+
+impl Reader {
+    pub const NEW: Reader = Reader::not_reading(0);
+    pub const COMPLETE: Reader = Reader::not_reading(2);
+
+    const fn not_reading(phase: u8) -> Reader {
+        Reader {
+            phase,
+            system: 0,
+            width: 0,
+            height: 0,
+            next: 0,
+        }
+    }
+
+    /// The history that the calls take this reader for: a value that no call gives is not opened, and of a complete one nothing is
+    /// known but that every row came.
+    pub fn taken(self) -> exact::Reader {
+        match self.phase {
+            1 if self.is_reading() => exact::Reader {
+                height: Some(self.height.into()),
+                rows: vec![(self.system.into(), self.width); self.next.into()],
+            },
+            2 => exact::Reader {
+                height: Some(1),
+                rows: vec![(1, 1)],
+            },
+            _ => exact::Reader::default(),
+        }
+    }
+
+    /// Whether the numbers of a reader go together: with no row yet, or with some.
+    fn is_reading(self) -> bool {
+        let [width, height, next] = [self.width, self.height, self.next].map(usize::from);
+        let is_known = system(self.system.into()).is_ok() && (1..=MOST_SAMPLES).contains(&width);
+        let has_none = (self.system, width, next) == (0, 0, 0);
+        (1..=MOST_ROWS).contains(&height) && next < height && (has_none || is_known && next > 0)
+    }
+}
+
+impl From<&exact::Reader> for Reader {
+    fn from(history: &exact::Reader) -> Reader {
+        let Some(height) = history.height else {
+            return Reader::NEW;
+        };
+        if history.is_complete() {
+            return Reader::COMPLETE;
+        }
+        let (system, width) = history.rows.first().copied().unwrap_or_default();
+        Reader {
+            phase: 1,
+            system: system as u8,
+            width,
+            height: height as u16,
+            next: history.rows.len() as u16,
+        }
+    }
+}
+
+impl ReaderAnswer {
+    /// A refused reader comes back as it was given, whatever it was taken for.
+    pub fn of(given: Reader, history: &exact::Reader, outcome: Outcome<()>) -> ReaderAnswer {
+        let (refusal, reader) = match outcome {
+            Ok(()) => (0, history.into()),
+            Err(refusal) => (refusal, given),
+        };
+        ReaderAnswer { refusal, reader }
+    }
+}
+
+impl NextAnswer {
+    pub const WORDS: usize = size_of::<NextAnswer>() / 4;
+
+    /// As above.
+    pub fn of(given: Reader, history: &exact::Reader, outcome: &Outcome<Row>) -> NextAnswer {
+        NextAnswer {
+            reader: if outcome.is_ok() { history.into() } else { given },
+            block: outcome.into(),
+        }
+    }
+
+    /// All its bytes.
+    pub fn words(&self) -> [u32; NextAnswer::WORDS] {
+        unsafe { std::mem::transmute(*self) }
     }
 }

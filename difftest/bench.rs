@@ -1,5 +1,5 @@
-//! The bench values of document 01 and of requests 2026-03 to 2026-09, of the exact program itself.
-use crate::answers::Meter;
+//! The bench values of document 01 and of requests 2026-03 to 2026-10, of the exact program itself.
+use crate::answers::{self, Meter};
 use crate::exact::*;
 
 pub fn check() {
@@ -15,6 +15,8 @@ pub fn check() {
     histories();
     meters();
     depths();
+    readers();
+    taken_readers();
 }
 
 fn lights() {
@@ -223,4 +225,56 @@ fn up_and_down(low: usize, high: u32) {
     let first = block(low as u8, 4319, [&words, &words, &words]);
     let up = change_depth(high, &first, first.len()).unwrap();
     assert_eq!(change_depth(low as u32, &up, up.len()), Ok(first));
+}
+
+/// A row of greys of this system, with so many samples.
+fn grey_row(system: u8, number: u16, samples: usize) -> Vec<u8> {
+    let greys = vec![128 * SYSTEMS[usize::from(system) - 1].scale as u16; samples];
+    block(system, number, [&greys, &greys, &greys])
+}
+
+/// The number of an accepted row, or the refusal.
+fn read_by(reader: &mut Reader, block: &[u8], places: usize) -> Outcome<u16> {
+    reader.read(block, places).map(|row| row.number)
+}
+
+/// A picture of two rows, each refusal with the next one, and a second picture.
+fn readers() {
+    let mut reader = Reader::default();
+    assert_eq!(read_by(&mut reader, &[], 0), Err(refusal::NOT_READING));
+    assert_eq!([0, 4321, u32::MAX].map(|height| reader.open(height)), [Err(refusal::HEIGHT); 3]);
+    assert_eq!(read_by(&mut reader, &grey_row(1, 0, 3), 9), Err(refusal::NOT_READING));
+    assert_eq!(reader.open(2), Ok(()));
+    assert_eq!(read_by(&mut reader, &grey_row(2, 1, 3), 9), Err(refusal::TURN));
+    assert_eq!(read_by(&mut reader, &grey_row(2, 0, 3), 9), Ok(0));
+    assert_eq!(read_by(&mut reader, &[], 0), Err(refusal::BLOCK_END));
+    assert_eq!(read_by(&mut reader, &grey_row(3, 0, 2), 5), Err(refusal::OUTPUT));
+    assert_eq!(read_by(&mut reader, &grey_row(3, 0, 2), 6), Err(refusal::TURN));
+    assert_eq!(read_by(&mut reader, &grey_row(3, 1, 3), 9), Err(refusal::UNLIKE));
+    assert_eq!(read_by(&mut reader, &grey_row(2, 1, 2), 9), Err(refusal::UNLIKE));
+    assert_eq!(reader.open(0), Err(refusal::HEIGHT));
+    assert_eq!(read_by(&mut reader, &grey_row(2, 1, 3), 9), Ok(1));
+    assert_eq!(read_by(&mut reader, &grey_row(2, 2, 3), 0), Err(refusal::NOT_READING));
+    assert_eq!(reader.open(4320), Ok(()));
+    assert_eq!(read_by(&mut reader, &grey_row(4, 0, 1), 3), Ok(0));
+    assert_eq!(reader.open(1), Ok(()));
+    assert_eq!(read_by(&mut reader, &grey_row(1, 0, 2), 6), Ok(0));
+    assert!(reader.is_complete());
+}
+
+/// The eight bytes of a history are taken for that history, but for the height of a complete one.
+fn taken_readers() {
+    let mut reader = Reader::default();
+    let is_taken = |reader: &Reader| answers::Reader::from(&answers::Reader::from(reader).taken()) == reader.into();
+    assert!(is_taken(&reader));
+    for height in 1..=4 {
+        reader.open(height).unwrap();
+        for number in 0..height as u16 {
+            assert!(is_taken(&reader));
+            assert_eq!(answers::Reader::from(&reader).next, number);
+            reader.read(&grey_row(3, number, 2), 6).unwrap();
+        }
+        assert_eq!(answers::Reader::from(&reader), answers::Reader::COMPLETE);
+        assert!(is_taken(&reader));
+    }
 }

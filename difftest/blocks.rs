@@ -111,8 +111,13 @@ fn damage_word(bytes: &mut [u8], width: usize, random: &mut Pseudorandom) {
         0, s - 1, s, 16 * s - 1, 16 * s, 235 * s, 235 * s + 1, 240 * s, 240 * s + 1, 255 * s - 1, 255 * s, 256 * s - 1, 256 * s,
         u16::MAX, any,
     ]);
-    let place = 3 + random.below(3) * (2 + 2 * width) + 2 + 2 * random.below(width);
-    put_word(bytes, place, word);
+    let section = random.below(3);
+    put_word(bytes, word_place(width, section, random.below(width)), word);
+}
+
+/// Where a section's word stands in a block of so many samples.
+pub fn word_place(width: usize, section: usize, sample: usize) -> usize {
+    3 + section * (2 + 2 * width) + 2 + 2 * sample
 }
 
 pub fn damage(bytes: &mut Vec<u8>, width: usize, random: &mut Pseudorandom) {
@@ -127,6 +132,35 @@ pub fn damage(bytes: &mut Vec<u8>, width: usize, random: &mut Pseudorandom) {
         6 if length > 0 => bytes[random.below(length)] = random.bits() as u8,
         7 if length > 0 => drop(bytes.remove(random.below(length))),
         _ => {}
+    }
+}
+
+pub const FAULTS: u32 = 8;
+
+/// Gives a whole block those faults whose bit is set: a last sample that is not video data, another count in a section, row number
+/// or system, an early end, bytes after the end.
+pub fn spoil(block: &mut Vec<u8>, system: &System, width: usize, faults: u32, random: &mut Pseudorandom) {
+    let has = |fault: u32| faults >> fault & 1 == 1;
+    let s = system.scale as u16;
+    if has(0) {
+        let word = random.pick(&[0, s - 1, 255 * s, u16::MAX]);
+        put_word(block, word_place(width, random.below(3), width - 1), word);
+    }
+    for section in (0..3).filter(|section| has(1 + section)) {
+        let count = random.pick(&[0, width as u16 - 1, width as u16 + 1, 7681]);
+        put_word(block, word_place(width, section as usize, 0) - 2, count);
+    }
+    if has(4) {
+        put_word(block, 1, 4320);
+    }
+    if has(5) {
+        block[0] = random.pick(&[0, 5, 128]);
+    }
+    if has(6) {
+        block.truncate(random.pick(&[0, 2, 4, block.len() - 1]));
+    }
+    if has(7) {
+        block.extend([1, 0]);
     }
 }
 

@@ -1,6 +1,6 @@
 //! Depth change (request 2026-09): blocks of all kinds with all targets, and what the request says of the results, judged by the
 //! library's own answers.
-use crate::blocks::{any_known, any_width, block_of_width, damage, hexadecimal, put_word};
+use crate::blocks::{self, any_known, any_width, block_of_width, damage, hexadecimal, put_word, spoil, word_place};
 use crate::exact::{self, block_bytes, System, MOST_SAMPLES, SYSTEMS};
 use crate::lent::Lent;
 use crate::library::{self, filled};
@@ -126,10 +126,6 @@ fn calm_block(system: &System, width: usize, random: &mut Pseudorandom) -> Vec<u
     let number = random.below(exact::MOST_ROWS) as u16;
     let [y, cb, cr] = [(); 3].map(|()| -> Vec<u16> { (0..width).map(|_| calm_word(system, random)).collect() });
     exact::block(system.number as u8, number, [&y, &cb, &cr])
-}
-
-fn word_place(width: usize, section: usize, sample: usize) -> usize {
-    3 + section * (2 + 2 * width) + 2 + 2 * sample
 }
 
 /// A row of which one word is another.
@@ -279,10 +275,10 @@ fn around(comparison: &mut Comparison, effort: &Effort, random: &mut Pseudorando
     }
 }
 
-const FAULTS: u32 = 12;
+const FAULTS: u32 = 4 + blocks::FAULTS;
 
 /// A target, block and room with those faults whose bit is set: a target that is refused with 32, or is none, a word that gives a
-/// timing code, or is not video data, another count, row number or system, an early end, bytes after the end, too little room.
+/// timing code, the faults of a block, too little room.
 fn with_faults(system: &System, faults: u32, random: &mut Pseudorandom) -> (u32, Vec<u8>, usize) {
     let has = |fault: u32| faults >> fault & 1 == 1;
     let s = system.scale as u16;
@@ -298,26 +294,7 @@ fn with_faults(system: &System, faults: u32, random: &mut Pseudorandom) -> (u32,
     if has(2) {
         put_word(&mut block, word_place(width, random.below(3), 0), 255 * s - 1 - random.within(0, 1));
     }
-    if has(3) {
-        let word = random.pick(&[0, s - 1, 255 * s, u16::MAX]);
-        put_word(&mut block, word_place(width, random.below(3), 1), word);
-    }
-    for section in (0..3).filter(|section| has(4 + section)) {
-        let count = random.pick(&[0, 1, width as u16 + 1, 7681]);
-        put_word(&mut block, word_place(width, section as usize, 0) - 2, count);
-    }
-    if has(7) {
-        put_word(&mut block, 1, 4320);
-    }
-    if has(8) {
-        block[0] = random.pick(&[0, 5, 128]);
-    }
-    if has(9) {
-        block.truncate(random.pick(&[0, 2, 4, block.len() - 1]));
-    }
-    if has(10) {
-        block.extend([1, 0]);
-    }
+    spoil(&mut block, system, width, faults >> 3, random);
     let room = if has(11) { random.below(block_bytes(width)) } else { block_bytes(width) };
     (target, block, room)
 }

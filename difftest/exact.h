@@ -21,6 +21,9 @@ ferghulta_total_answer exact_total_bytes(uint32_t width, uint32_t height);
 ferghulta_picture_answer exact_open(ferghulta_picture picture, uint32_t system, uint32_t width, uint32_t height);
 ferghulta_picture_answer exact_row(ferghulta_picture picture, const uint16_t *lights, size_t count, uint8_t *out, size_t room);
 ferghulta_picture_answer exact_close(ferghulta_picture picture);
+ferghulta_reader_answer exact_open_reader(ferghulta_reader reader, uint32_t height);
+ferghulta_next_answer exact_read_next(
+    ferghulta_reader reader, const uint8_t *bytes, size_t length, uint16_t *codes, size_t places);
 uint32_t exact_change_depth(uint32_t target, const uint8_t *block, size_t length, uint8_t *out, size_t room);
 
 #endif

@@ -28,6 +28,9 @@ pub mod refusal {
     pub const LENGTH: u32 = 31;
     pub const TARGET: u32 = 32;
     pub const TIMING: u32 = 33;
+    pub const TURN: u32 = 34;
+    pub const UNLIKE: u32 = 35;
+    pub const NOT_READING: u32 = 36;
 }
 
 fn require(condition: bool, refusal: u32) -> Outcome<()> {
@@ -769,4 +772,42 @@ pub fn change_depth(number: u32, bytes: &[u8], room: usize) -> Outcome<Vec<u8>> 
     let changed = block(target.number as u8, row_number, [&y, &cb, &cr]);
     require(room >= changed.len(), refusal::OUTPUT)?;
     Ok(changed)
+}
+
+// ---- request 2026-10, rows out of turn
+
+/// A picture reader as its history: the height that the last accepted opening was given, none before it, and the system and the
+/// count of each block accepted since, the first one first.
+#[derive(Clone, Debug, Default)]
+pub struct Reader {
+    pub height: Option<usize>,
+    pub rows: Vec<(u32, u16)>,
+}
+
+impl Reader {
+    /// 'After height rows it is complete.'
+    pub fn is_complete(&self) -> bool {
+        self.height == Some(self.rows.len())
+    }
+
+    /// 'Given a height on opening (3 if not 1 to 4320)'; 'opening, allowed in any state, starts it anew'.
+    pub fn open(&mut self, height: u32) -> Outcome<()> {
+        let height = height as usize;
+        require((1..=MOST_ROWS).contains(&height), refusal::HEIGHT)?;
+        self.height = Some(height);
+        self.rows.clear();
+        Ok(())
+    }
+
+    /// 'Gives for each accepted block what block reading gives.' '36 is tested first, 34 and then 35 after block reading's checks';
+    /// 'it starts at row 0'.
+    pub fn read(&mut self, bytes: &[u8], places: usize) -> Outcome<Row> {
+        require(self.height.is_some() && !self.is_complete(), refusal::NOT_READING)?;
+        let row = read_block(bytes, places)?;
+        require(usize::from(row.number) == self.rows.len(), refusal::TURN)?;
+        let kind = (row.system, row.samples);
+        require(self.rows.first().is_none_or(|&first| first == kind), refusal::UNLIKE)?;
+        self.rows.push(kind);
+        Ok(row)
+    }
 }

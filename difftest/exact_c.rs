@@ -128,6 +128,31 @@ pub extern "C" fn exact_total_bytes(width: u32, height: u32) -> TotalAnswer {
     exact::total_bytes(width, height).into()
 }
 
+#[no_mangle]
+pub extern "C" fn exact_open_reader(reader: Reader, height: u32) -> ReaderAnswer {
+    let mut history = reader.taken();
+    let outcome = history.open(height);
+    ReaderAnswer::of(reader, &history, outcome)
+}
+
+/// # Safety
+/// As `exact_read_block`.
+#[no_mangle]
+pub unsafe extern "C" fn exact_read_next(
+    reader: Reader,
+    bytes: *const u8,
+    length: usize,
+    codes: *mut u16,
+    places: usize,
+) -> NextAnswer {
+    let mut history = reader.taken();
+    let outcome = history.read(from_raw_parts(bytes, length), places);
+    if let Ok(row) = &outcome {
+        from_raw_parts_mut(codes, row.codes.len()).copy_from_slice(&row.codes);
+    }
+    NextAnswer::of(reader, &history, &outcome)
+}
+
 /// # Safety
 /// As `exact_read_block`.
 #[no_mangle]

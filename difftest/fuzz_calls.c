@@ -1,4 +1,5 @@
-/* Lists of calls beside the exact program. libFuzzer's bytes are read as a list; the picture and the meter go from call to call. */
+/* Lists of calls beside the exact program. libFuzzer's bytes are read as a list; the picture, the meter and the reader go from call
+ * to call. */
 #include "harness.h"
 
 enum { MOST_CALLS = 40, MOST_LIGHTS = 3 * FERGHULTA_MOST_SAMPLES + 8, MOST_ROOM = FERGHULTA_BLOCK_BYTES(FERGHULTA_MOST_SAMPLES) + 8 };
@@ -7,6 +8,7 @@ struct list {
     const uint8_t *at, *end;
     ferghulta_picture picture;
     ferghulta_meter meter;
+    ferghulta_reader reader;
     uint8_t block[MOST_ROOM]; /* of the last row, or any */
     size_t block_bytes;
 };
@@ -220,6 +222,70 @@ static void damage_meter(struct list *list)
     agree_on_figures(list->meter);
 }
 
+/* ---- readers */
+
+/* With the height that the list says, or with the picture's. */
+static void open_reader(struct list *list)
+{
+    uint32_t height = byte(list) < 64 ? list->picture.height : number(list, 6);
+    ferghulta_reader_answer got = ferghulta_open_reader(list->reader, height), wanted = exact_open_reader(list->reader, height);
+    note(OPEN_READER, got.refusal);
+    agree(OPEN_READER, "the answer", &got, &wanted, sizeof got);
+    list->reader = got.reader;
+}
+
+/* The block, whichever it is. */
+static void read_next(struct list *list)
+{
+    enum { BEYOND = 16 };
+    static uint16_t codes[MOST_LIGHTS + BEYOND], wanted_codes[MOST_LIGHTS + BEYOND];
+    size_t length = list->block_bytes, places = nearly(list, length / 2, MOST_LIGHTS);
+    ferghulta_next_answer got = ferghulta_read_next(list->reader, list->block, length, codes, places);
+    ferghulta_next_answer wanted = exact_read_next(list->reader, list->block, length, wanted_codes, places);
+    note(READ_NEXT, got.block.refusal);
+    agree(READ_NEXT, "the answer", &got, &wanted, sizeof got);
+    agree(READ_NEXT, "the codes", codes, wanted_codes, (places + BEYOND) * sizeof *codes);
+    list->reader = got.reader;
+}
+
+/* The block with the number that is due, some times, so that rows follow each other. */
+static void read_in_turn(struct list *list)
+{
+    for (int times = 1 + byte(list) % 8; times > 0 && list->block_bytes >= 3; times--) {
+        memcpy(list->block + 1, &list->reader.next, 2);
+        read_next(list);
+    }
+}
+
+/* A row of lights, whose block the reader is given. */
+static void take_and_read_row(struct list *list)
+{
+    take_row(list);
+    read_next(list);
+}
+
+/* A reader that came from no call: its numbers are mostly in their ranges, and its kind is often the block's. */
+static void any_reader(struct list *list)
+{
+    list->reader.phase = byte(list) % 4;
+    list->reader.system = (uint8_t)number(list, 6);
+    list->reader.width = (uint16_t)number(list, 12);
+    list->reader.height = word(list) % 5000;
+    list->reader.next = byte(list) < 64 ? list->reader.height - 1 : word(list) % 5000;
+    if (byte(list) < 128 && list->block_bytes > 0) {
+        list->reader.system = list->block[0];
+        list->reader.width = (uint16_t)((list->block_bytes - FERGHULTA_BLOCK_BYTES(0)) / 6);
+    }
+}
+
+/* Some bytes of the reader are others, mostly one. */
+static void damage_reader(struct list *list)
+{
+    uint8_t *bytes = (uint8_t *)&list->reader;
+    for (int times = 1 + byte(list) % 2; times > 0; times--)
+        bytes[byte(list) % sizeof list->reader] ^= byte(list);
+}
+
 /* ---- values; the parts of an answer have no padding, the answer may */
 
 #define AGREE(call, got, wanted, part) \
@@ -297,7 +363,8 @@ static void totals(struct list *list)
 
 static void (*const calls[])(struct list *) = {
     open_picture, take_row, take_row, take_row, close_picture, read_row, any_picture, damage_bytes, totals, lights_and_codes, signals,
-    triples, levels, any_block, read_metered, read_metered_again, any_meter, damage_meter,
+    triples, levels, any_block, read_metered, read_metered_again, any_meter, damage_meter, open_reader, read_next, read_in_turn,
+    take_and_read_row, any_reader, damage_reader,
 };
 
 int LLVMFuzzerTestOneInput(const uint8_t *data, size_t size)
@@ -307,6 +374,7 @@ int LLVMFuzzerTestOneInput(const uint8_t *data, size_t size)
     list.end = data + size;
     list.picture = ferghulta_new();
     list.meter = ferghulta_empty_meter();
+    list.reader = ferghulta_new_reader();
     list.block_bytes = 0;
     for (int call = 0; call < MOST_CALLS && list.at < list.end; call++)
         calls[byte(&list) % (sizeof calls / sizeof calls[0])](&list);

@@ -1,9 +1,11 @@
-/* Block reading beside the exact program, by itself and with a meter, and depth change, on blocks that libFuzzer makes.
+/* Block reading beside the exact program, by itself, with a meter and with a reader, and depth change, on blocks that libFuzzer
+ * makes.
  *
  * The first byte says how many places are lent beside those that the first count asks for, and how many bytes for the other depth
- * beside the block's own; the third says the target. The rest is the block; where the second byte is odd it is stretched: the words
- * after the first count are repeated to fill three sections of that count. Its upper bits say how many rows the meter has, whose
- * counts are the bytes of the block again and again; from 66 on the whole meter is.
+ * beside the block's own; the third says the target, and the fourth what the reader asks for. The rest is the block; where the
+ * second byte is odd it is stretched: the words after the first count are repeated to fill three sections of that count, and where
+ * its second bit is set too the last word is at the end of video data. Its upper bits say how many rows the meter has, whose counts
+ * are the bytes of the block again and again; from 66 on the whole meter is.
  */
 #include "harness.h"
 
@@ -41,6 +43,13 @@ static size_t stretch(const uint8_t *block, size_t length, uint8_t *to)
             to[at++] = block[5 + (byte + section * words / 3) % words];
     }
     return at;
+}
+
+/* One of the last four words of video data: at the other depth some of them are timing codes. */
+static void end_with_last_word(uint8_t *block, size_t length, uint8_t which)
+{
+    uint16_t s = block[0] == 1 ? 1 : block[0] == 4 ? 16 : 4, word = (uint16_t)(255 * s - 1 - which % 4);
+    memcpy(block + length - 2, &word, sizeof word);
 }
 
 /* Up to 65 rows the parts agree, but for 65 rows themselves. */
@@ -95,6 +104,49 @@ static void compare(const uint8_t *block, size_t length, size_t places)
     agree(READ_BLOCK, "the bytes lent", bytes, block, length);
 }
 
+/* Mostly a reader to which the block is due, as the first one where the highest bit is set. The other bits make another system,
+ * width and row number, another phase, a picture that ends with this row or before it, or the last bytes of the block a reader. */
+static ferghulta_reader reader_of(uint8_t byte, const uint8_t *block, size_t length)
+{
+    uint8_t bits = byte % 128 < 64 ? byte & 128 : byte;
+    ferghulta_reader reader = { FERGHULTA_READING, 0, 0, FERGHULTA_MOST_ROWS, 0 };
+    if (bits < 128 && length >= 3) {
+        reader.system = block[0];
+        reader.width = first_count(block, length);
+        memcpy(&reader.next, block + 1, sizeof reader.next);
+    }
+    if (bits & 1)
+        reader.system = reader.system % 4 + 1;
+    if (bits & 2)
+        reader.width ^= 1;
+    if (bits & 4)
+        reader.next ^= 1;
+    if (bits & 8)
+        reader.phase = FERGHULTA_COMPLETE + bits / 16 % 2;
+    if (bits & 48)
+        reader.height = (uint16_t)(reader.next + bits / 16 % 2);
+    if (bits % 128 >= 112 && length >= sizeof reader)
+        memcpy(&reader, block + length - sizeof reader, sizeof reader);
+    return reader;
+}
+
+static void compare_next(ferghulta_reader reader, const uint8_t *block, size_t length, size_t places)
+{
+    static uint16_t wanted_memory[GUARD + MOST_PLACES];
+    uint8_t *bytes = bytes_end - length;
+    uint16_t *codes = (uint16_t *)codes_end - places, *memory = codes - GUARD;
+    size_t memory_bytes = (GUARD + places) * sizeof *memory;
+    memcpy(bytes, block, length);
+    memset(memory, 0xA5, memory_bytes);
+    memset(wanted_memory, 0xA5, memory_bytes);
+    ferghulta_next_answer got = ferghulta_read_next(reader, bytes, length, codes, places);
+    ferghulta_next_answer wanted = exact_read_next(reader, block, length, wanted_memory + GUARD, places);
+    note(READ_NEXT, got.block.refusal);
+    agree(READ_NEXT, "the answer", &got, &wanted, sizeof got);
+    agree(READ_NEXT, "the codes", memory, wanted_memory, memory_bytes);
+    agree(READ_NEXT, "the bytes lent", bytes, block, length);
+}
+
 /* Mostly the other depth of the block's Recommendation, a small number, or any. */
 static uint32_t target_of(uint8_t byte, const uint8_t *block, size_t length)
 {
@@ -136,17 +188,20 @@ static void compare_depth(uint32_t target, const uint8_t *block, size_t length, 
 int LLVMFuzzerTestOneInput(const uint8_t *data, size_t size)
 {
     static uint8_t stretched[MOST_BYTES];
-    if (size < 3 || size > MOST_BYTES)
+    if (size < 4 || size > MOST_BYTES)
         return 0;
-    const uint8_t *block = data + 3;
-    size_t length = size - 3;
+    const uint8_t *block = data + 4;
+    size_t length = size - 4;
     if (data[1] % 2 == 1 && length > 5) {
         length = stretch(block, length, stretched);
+        if (data[1] % 4 == 3)
+            end_with_last_word(stretched, length, data[0]);
         block = stretched;
     }
     size_t places = places_for((int8_t)data[0], first_count(block, length));
     compare(block, length, places);
     compare_metered(block, length, places, data[1] / 2);
+    compare_next(reader_of(data[3], block, length), block, length, places);
     long room = (long)length + (int8_t)data[0];
     compare_depth(target_of(data[2], block, length), block, length, room < 0 ? 0 : (size_t)room);
     return 0;

@@ -8,7 +8,7 @@
 #include <string.h>
 #include <sys/mman.h>
 
-enum { FENCED_PAGES = 16, PAGE = 4096, REFUSALS = 34 };
+enum { FENCED_PAGES = 16, PAGE = 4096, REFUSALS = 37 };
 
 enum call {
     OPEN,
@@ -28,12 +28,14 @@ enum call {
     LEVEL_OF_DIFFERENCE,
     TOTAL_BYTES,
     CHANGE_DEPTH,
+    OPEN_READER,
+    READ_NEXT,
     CALLS
 };
 
 static const char *const names[CALLS] = { "open", "row", "close", "read_block", "read_metered", "meter_figures", "code_of_light",
     "span_of_code", "codes_of_signals", "signals_of_codes", "words_of_codes", "trimmed_words_of_codes", "codes_of_words",
-    "level_of_code", "level_of_difference", "total_bytes", "change_depth" };
+    "level_of_code", "level_of_difference", "total_bytes", "change_depth", "open_reader", "read_next" };
 
 /* The library is not instrumented, so its refusals are told to libFuzzer as counters of their own. */
 __attribute__((section("__libfuzzer_extra_counters"))) static uint8_t refused[CALLS][REFUSALS];

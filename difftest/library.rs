@@ -40,11 +40,20 @@ extern "C" {
     pub fn ferghulta_to_segmented(from: *const u8, length: usize, to: *mut u8, room: usize) -> u32;
     pub fn ferghulta_to_progressive(from: *const u8, length: usize, to: *mut u8, room: usize) -> u32;
     pub fn ferghulta_change_depth(target: u32, block: *const u8, length: usize, out: *mut u8, room: usize) -> u32;
+    pub fn ferghulta_new_reader() -> Reader;
+    pub fn ferghulta_open_reader(reader: Reader, height: u32) -> ReaderAnswer;
+    pub fn ferghulta_read_next(
+        reader: Reader,
+        bytes: *const u8,
+        length: usize,
+        codes: *mut u16,
+        places: usize,
+    ) -> NextAnswer;
 }
 
 /// The same calls with what the x86-64 convention leaves open, filled: the upper half of a register with a u32 or a u16, the fourth
 /// word of one with a triple, the upper lane of one with the third float, the upper half of the second one of a picture, the stack
-/// behind a meter, the memory to which the answer of a metered read goes. No answer may depend on it.
+/// behind a meter, the memory to which the answer of a read with a meter or a reader goes. No answer may depend on it.
 pub mod filled {
     use crate::answers::*;
 
@@ -90,5 +99,14 @@ pub mod filled {
         ) -> *mut MeteredAnswer;
         pub fn ferghulta_meter_figures(meter: LongMeter) -> FiguresAnswer;
         pub fn ferghulta_change_depth(target: u64, block: *const u8, length: usize, out: *mut u8, room: usize) -> u32;
+        pub fn ferghulta_open_reader(reader: Reader, height: u64) -> ReaderAnswer;
+        pub fn ferghulta_read_next(
+            answer: *mut NextAnswer,
+            reader: Reader,
+            bytes: *const u8,
+            length: usize,
+            codes: *mut u16,
+            places: usize,
+        ) -> *mut NextAnswer;
     }
 }

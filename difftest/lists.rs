@@ -11,19 +11,20 @@ use crate::tally::Tally;
 use crate::values::any_system;
 use crate::Effort;
 
-/// A row of the book, and its block as its call left it.
-struct Entry {
-    system: u32,
-    number: usize,
-    lights: Vec<u16>,
-    block: Vec<u8>,
+/// A row of the book, the height of its picture, and its block as its call left it.
+pub struct Entry {
+    pub system: u32,
+    pub height: usize,
+    pub number: usize,
+    pub lights: Vec<u16>,
+    pub block: Vec<u8>,
 }
 
 /// The library's picture, handed from call to call, beside the book; one buffer is lent to every row.
-struct List {
+pub struct List {
     picture: Picture,
     book: Book,
-    entries: Vec<Entry>,
+    pub entries: Vec<Entry>,
     /// What the last accepted open was given, and how many entries there were.
     size: [u32; 2],
     entries_before_open: usize,
@@ -32,7 +33,7 @@ struct List {
 }
 
 impl List {
-    fn begin(random: &mut Pseudorandom) -> List {
+    pub fn begin(random: &mut Pseudorandom) -> List {
         let most_samples = if random.once_in(500) { 7680 } else { 8 };
         let room = exact::block_bytes(most_samples) + 3;
         List {
@@ -47,7 +48,7 @@ impl List {
     }
 
     /// Mostly the call that the state asks for.
-    fn step(&mut self, tally: &mut Tally, random: &mut Pseudorandom) {
+    pub fn step(&mut self, tally: &mut Tally, random: &mut Pseudorandom) {
         let asked = match self.book {
             Book::Open(opened) if opened.rows < opened.height => 1,
             Book::Open(_) => 2,
@@ -105,6 +106,7 @@ impl List {
         if let Book::Open(opened) = self.book {
             self.entries.push(Entry {
                 system: opened.system,
+                height: opened.height,
                 number: opened.rows,
                 lights: lights.to_vec(),
                 block: self.buffer.part()[..block_bytes].to_vec(),
@@ -180,7 +182,7 @@ fn read_back(tally: &mut Tally, entry: &Entry, random: &mut Pseudorandom) {
     });
 }
 
-fn is_header(got: &BlockAnswer, entry: &Entry) -> bool {
+pub fn is_header(got: &BlockAnswer, entry: &Entry) -> bool {
     got.refusal == 0
         && got.system == entry.system
         && usize::from(got.row) == entry.number
@@ -192,7 +194,7 @@ fn system_of(entry: &Entry) -> &'static System {
 }
 
 /// Each code is within one of its light's code, and its light within the spans of the neighbours of the code read.
-fn are_codes_near(entry: &Entry, codes: &[u16]) -> bool {
+pub fn are_codes_near(entry: &Entry, codes: &[u16]) -> bool {
     let system = system_of(entry);
     let is_near = |(&light, &code): (&u16, &u16)| {
         let (least, greatest) = exact::lights_near(system, code);

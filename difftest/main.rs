@@ -14,6 +14,7 @@ mod meters;
 mod natural;
 mod pictures;
 mod pseudorandom;
+mod readers;
 mod segments;
 mod tally;
 mod values;
@@ -98,6 +99,11 @@ fn compare(effort: &Effort, seed: u64) -> bool {
         & meters::read_metered(effort, random)
         & meters::lists(effort, random)
         & depths::change_depth(effort, random)
+        & readers::new_reader(effort)
+        & readers::open_reader(effort, random)
+        & readers::read_next(effort, random)
+        & readers::lists(effort, random)
+        & readers::sent_and_read(effort, random)
 }
 
 /// The form, and cases and seed where they are given.

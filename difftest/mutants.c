@@ -24,6 +24,9 @@ ferghulta_picture_answer right_ferghulta_close(ferghulta_picture);
 uint32_t right_ferghulta_to_segmented(const uint8_t *, size_t, uint8_t *, size_t);
 uint32_t right_ferghulta_to_progressive(const uint8_t *, size_t, uint8_t *, size_t);
 uint32_t right_ferghulta_change_depth(uint32_t, const uint8_t *, size_t, uint8_t *, size_t);
+ferghulta_reader right_ferghulta_new_reader(void);
+ferghulta_reader_answer right_ferghulta_open_reader(ferghulta_reader, uint32_t);
+ferghulta_next_answer right_ferghulta_read_next(ferghulta_reader, const uint8_t *, size_t, uint16_t *, size_t);
 
 static volatile uint8_t kept;
 
@@ -1106,4 +1109,426 @@ uint32_t ferghulta_change_depth(uint32_t target, const uint8_t *block, size_t le
     if (mutant(222) && refusal == 0)
         ((uint8_t *)block)[0] = (uint8_t)target; /* changed in place */
     return refusal;
+}
+
+/* ---- readers; they are computed anew here, but where nothing is made wrong */
+
+enum { MOST_CODES = FERGHULTA_ROW_CODES(FERGHULTA_MOST_SAMPLES), MOST_ROWS = FERGHULTA_MOST_ROWS };
+
+/* A block that is given to a reader: what reading gives of it with places enough, its codes, and the places that it has. */
+struct given {
+    const uint8_t *bytes;
+    size_t length, places;
+    ferghulta_block_answer block;
+    const uint16_t *codes;
+};
+
+static int has_no_kind(ferghulta_reader r)
+{
+    return r.system == 0 && r.width == 0;
+}
+
+/* Whether a system and a width are a picture's, or one of them is not looked at. */
+static int has_kind(ferghulta_reader r)
+{
+    int system = is_system(r.system) || (mutant(232) && r.system > 4) || (mutant(233) && r.system == 0 && r.width > 0);
+    int most = FERGHULTA_MOST_SAMPLES - mutant(234);
+    int width = is_within(r.width, 1, most) || (mutant(235) && r.width > most) || (mutant(236) && r.width == 0 && r.system > 0);
+    return system && width;
+}
+
+/* Whether the numbers of a reader go together. */
+static int is_whole_reader(ferghulta_reader r)
+{
+    int most = MOST_ROWS - mutant(237);
+    int height = is_within(r.height, 1, most) || (mutant(238) && r.height > most);
+    int next = r.next < r.height || mutant(239) || (mutant(240) && r.next == r.height); /* not below the height */
+    int kind = r.next == 0 ? has_no_kind(r) : has_kind(r);
+    if (mutant(241) && r.next == 0)
+        kind |= has_kind(r); /* a kind before the first row */
+    if (mutant(242) && r.next > 0)
+        kind |= has_no_kind(r); /* rows of no kind */
+    return height && next && kind;
+}
+
+static int is_reading(ferghulta_reader r)
+{
+    int phase = r.phase == FERGHULTA_READING;
+    if (mutant(243))
+        phase = r.phase % 2 == 1; /* of the lowest bit */
+    if (mutant(244))
+        phase |= r.phase > FERGHULTA_COMPLETE;
+    if (mutant(245))
+        phase |= r.phase == FERGHULTA_COMPLETE; /* its numbers are looked at, not the phase */
+    if (mutant(246))
+        phase |= r.phase == FERGHULTA_UNOPENED; /* the same */
+    return phase && is_whole_reader(r);
+}
+
+/* Whether a block is out of turn. */
+static int is_out_of_turn(ferghulta_reader r, uint16_t row)
+{
+    if (mutant(247))
+        return row % 256 != r.next % 256;
+    if (mutant(248))
+        return row < r.next; /* rows may be left out */
+    if (mutant(249))
+        return row > r.next; /* rows may come again */
+    if (mutant(250))
+        return r.next > 0 && row != r.next; /* the first may have any number */
+    if (mutant(251))
+        return row != r.next + 1; /* rows from 1 on */
+    if (mutant(252))
+        return row != r.next && row != r.next - 1; /* the latest may come again */
+    if (mutant(253))
+        return row != r.next && row >= r.height; /* in any order */
+    if (mutant(254))
+        return row != r.next && r.next + 1 < r.height; /* the last may have any number */
+    return !mutant(255) && row != r.next; /* 255: no number is looked at */
+}
+
+/* Whether a block is unlike the first. */
+static int is_unlike(ferghulta_reader r, ferghulta_block_answer b)
+{
+    int system = b.system != r.system, width = b.samples != r.width;
+    if (r.next == 0)
+        return mutant(256) && b.system == 4; /* a first block of 12 bits */
+    if (mutant(257))
+        return system; /* the width is not kept */
+    if (mutant(258))
+        return width; /* the system is not */
+    if (mutant(259))
+        return system && width;
+    if (mutant(260))
+        return width || scale(b.system) != scale(r.system); /* by its depth */
+    if (mutant(261))
+        return width || (b.system <= 2) != (r.system <= 2); /* by its Recommendation */
+    if (mutant(262))
+        return system || b.samples % 256 != r.width % 256;
+    if (mutant(263))
+        return system || b.samples > r.width; /* narrower ones pass */
+    if (mutant(264))
+        return system || b.samples < r.width; /* wider ones do */
+    if (mutant(265))
+        return r.next > 1 && (system || width); /* by the second row's kind */
+    if (mutant(266) && r.next + 1 == r.height)
+        return 0; /* the last row's is not looked at */
+    return system || width;
+}
+
+static uint32_t refusal_of_turn(ferghulta_reader r, struct given g)
+{
+    uint32_t turn = is_out_of_turn(r, g.block.row) ? 34 : 0, kind = is_unlike(r, g.block) ? 35 : 0;
+    if (mutant(267))
+        return turn != 0 ? 35 : kind != 0 ? 34 : 0; /* exchanged */
+    if (mutant(268))
+        return kind != 0 ? kind : turn; /* 35 before 34 */
+    return turn != 0 ? turn : kind;
+}
+
+/* Whether a block begins with a system and a row number that is not the next one, whatever comes after them. */
+static int has_other_number(ferghulta_reader r, struct given g)
+{
+    return g.length >= 3 && is_system(g.bytes[0]) && word_at(g.bytes, 1) < MOST_ROWS && word_at(g.bytes, 1) != r.next;
+}
+
+/* Whether it begins with a system or a count that is unlike the first. */
+static int has_other_kind(ferghulta_reader r, struct given g)
+{
+    return r.next > 0 && g.length >= 5 && (g.bytes[0] != r.system || word_at(g.bytes, 3) != r.width);
+}
+
+/* What reading refuses, but for the room: something of the reader's is told before it. */
+static uint32_t spoilt_walk(ferghulta_reader r, struct given g)
+{
+    uint32_t refusal = g.block.refusal;
+    if (mutant(269) && has_other_number(r, g))
+        return 34; /* as soon as the row number is read */
+    if (mutant(270) && refusal == 6 && has_other_number(r, g))
+        return 34; /* before the words */
+    if (mutant(271) && refusal == 10)
+        return 34; /* above 4319 too */
+    if (mutant(272) && has_other_kind(r, g) && refusal != 8 && refusal != 1 && refusal != 10)
+        return 35; /* as soon as the first count is */
+    if (mutant(273) && refusal == 6 && has_other_kind(r, g))
+        return 35; /* before the words */
+    if (mutant(274) && refusal == 1 && r.next > 0)
+        return 35; /* no system is unlike, too */
+    if (mutant(275) && refusal == 9 && has_other_kind(r, g))
+        return 35; /* so is no count */
+    return refusal;
+}
+
+/* 36 is due. */
+static uint32_t spoilt_state(ferghulta_reader r, struct given g)
+{
+    if (mutant(276) && g.block.refusal != 0)
+        return g.block.refusal; /* after reading's checks but for the room */
+    if (mutant(277) && g.length < 3)
+        return 8; /* after the block's first bytes */
+    if (mutant(278) && g.block.refusal == 0 && g.places < FERGHULTA_ROW_CODES(g.block.samples))
+        return 5; /* after the room */
+    if (mutant(279) && r.phase == FERGHULTA_COMPLETE && g.block.refusal == 0)
+        return 34; /* when complete, no row is the next */
+    return mutant(280) ? 22 : 36; /* 280: as a picture */
+}
+
+static uint32_t refusal_of_next(ferghulta_reader r, struct given g)
+{
+    if (!is_reading(r))
+        return spoilt_state(r, g);
+    uint32_t walk = spoilt_walk(r, g);
+    if (walk != 0)
+        return walk;
+    uint32_t room = g.places < FERGHULTA_ROW_CODES(g.block.samples) ? 5 : 0, turn = refusal_of_turn(r, g);
+    if (mutant(281) && turn == 34)
+        return 34; /* 5 after 34 */
+    if (mutant(282) && turn == 35)
+        return 35; /* after 35 */
+    return room != 0 ? room : turn;
+}
+
+/* The reader after an accepted block, some of its numbers made wrong. */
+static ferghulta_reader spoilt_numbers(ferghulta_reader r, ferghulta_block_answer b, ferghulta_reader after)
+{
+    if (mutant(283))
+        after.next = r.next; /* not raised */
+    if (mutant(284))
+        after.next += 1;
+    if (mutant(285))
+        after.next %= 256;
+    if (mutant(286))
+        after.next %= 4096;
+    if (mutant(287))
+        after.system = r.system; /* the first block's is not kept */
+    if (mutant(288))
+        after.width = r.width;
+    if (mutant(289))
+        after.width = (uint16_t)FERGHULTA_ROW_CODES(b.samples);
+    if (mutant(290))
+        after.height = 0;
+    if (mutant(291))
+        after.height -= 1; /* rows that are left */
+    return after;
+}
+
+static ferghulta_reader complete_reader(ferghulta_reader on)
+{
+    ferghulta_reader complete = { FERGHULTA_COMPLETE, 0, 0, 0, 0 };
+    if (mutant(292)) { /* its numbers are left */
+        complete = on;
+        complete.phase = FERGHULTA_COMPLETE;
+    }
+    if (mutant(293))
+        complete.height = on.height;
+    if (mutant(294))
+        complete.next = on.next;
+    if (mutant(295))
+        complete.phase = FERGHULTA_UNOPENED;
+    if (mutant(296)) /* begins again by itself */
+        complete = (ferghulta_reader){ FERGHULTA_READING, 0, 0, on.height, 0 };
+    return complete;
+}
+
+static ferghulta_reader reader_after(ferghulta_reader r, ferghulta_block_answer b)
+{
+    ferghulta_reader on = { FERGHULTA_READING, (uint8_t)b.system, b.samples, r.height, (uint16_t)(r.next + 1) };
+    int rows = on.next;
+    if (mutant(297))
+        rows += 1; /* complete a row early */
+    if (mutant(298))
+        rows -= 1; /* and late */
+    if (mutant(299) && r.height == MOST_ROWS)
+        rows -= 1; /* late in the highest picture */
+    if (mutant(300) && r.height == 1)
+        rows -= 1; /* late in a picture of one row */
+    if (mutant(301))
+        rows = rows % 256 == r.height % 256 ? r.height : rows;
+    return rows >= r.height ? complete_reader(on) : spoilt_numbers(r, b, on);
+}
+
+/* The reader that a refused block gives, made wrong. */
+static ferghulta_reader refused_reader(ferghulta_reader r, struct given g, uint32_t refusal)
+{
+    ferghulta_reader none = { FERGHULTA_UNOPENED, 0, 0, 0, 0 };
+    if ((mutant(302) && refusal == 34) || (mutant(303) && refusal == 35) || (mutant(304) && refusal == 5))
+        r.next += 1; /* the row counts all the same */
+    if (mutant(305) && refusal == 34)
+        r.next = (uint16_t)(g.block.row + 1); /* goes on from there */
+    if (mutant(306) && refusal == 35) { /* the other kind is taken on */
+        r.system = (uint8_t)g.block.system;
+        r.width = g.block.samples;
+    }
+    if (mutant(307) && refusal == 34 && r.next == 0) { /* the kind of a first block that is refused is kept */
+        r.system = (uint8_t)g.block.system;
+        r.width = g.block.samples;
+    }
+    if (mutant(308) && refusal == 34)
+        return none;
+    if (mutant(309) && refusal != 36 && refusal != 34 && refusal != 35)
+        return none; /* where reading refuses */
+    if (mutant(310) && refusal == 36 && r.phase == FERGHULTA_READING)
+        return none; /* what it is taken for */
+    if (mutant(311) && refusal == 36 && r.phase == FERGHULTA_COMPLETE)
+        r = (ferghulta_reader){ FERGHULTA_COMPLETE, 0, 0, 0, 0 }; /* its numbers are cleared */
+    if (mutant(312) && refusal == 36)
+        r.phase = FERGHULTA_UNOPENED;
+    return r;
+}
+
+/* The block's answer of a refused read, made wrong. */
+static ferghulta_block_answer refused_block(struct given g, uint32_t refusal)
+{
+    ferghulta_block_answer block = { .refusal = refusal };
+    if (mutant(313) && refusal == 34)
+        block.row = g.block.row; /* not 0 on refusal */
+    if (mutant(314) && refusal == 35)
+        block.system = g.block.system;
+    if (mutant(315) && (refusal == 34 || refusal == 35))
+        block.clips = g.block.clips;
+    if (mutant(316) && refusal == 36)
+        block.samples = g.block.samples;
+    return block;
+}
+
+/* The block's answer of an accepted read, made wrong. */
+static ferghulta_block_answer accepted_block(ferghulta_reader r, ferghulta_block_answer block)
+{
+    if (mutant(317))
+        block.clips = (ferghulta_clips){ 0, 0 }; /* lost */
+    if (mutant(318))
+        block.clips = (ferghulta_clips){ block.clips.high, block.clips.low }; /* exchanged */
+    if (mutant(319))
+        block.row += 1; /* the row that is due then */
+    if (mutant(320) && r.next > 0)
+        block.samples = 0; /* known from the first */
+    if (mutant(321) && r.next + 1 == r.height)
+        block.refusal = 36; /* the last row is told as complete */
+    return block;
+}
+
+/* Writes the codes of a read, and where it is made wrong what it must not; never beyond the places. */
+static void write_codes(ferghulta_reader r, struct given g, uint32_t refusal, uint16_t *codes)
+{
+    size_t count = FERGHULTA_ROW_CODES(g.block.samples), fitting = lesser(count, g.places);
+    int is_written = refusal == 0;
+    if (mutant(322))
+        is_written |= refusal == 34; /* before the turn is looked at */
+    if (mutant(323))
+        is_written |= refusal == 35;
+    if (mutant(324))
+        is_written |= refusal == 36;
+    if (mutant(325))
+        is_written |= refusal == 5; /* as far as it goes */
+    if (mutant(326) && r.next + 1 == r.height)
+        is_written = 0; /* the last row's are left out */
+    if (is_written)
+        memcpy(codes, g.codes, fitting * sizeof *codes);
+    if (mutant(327) && refusal == 0 && g.places > count)
+        codes[count] = 0; /* behind the row */
+    if (mutant(351) && refusal == 0)
+        clip_to_nominal(g.block.system, codes, count); /* not what reading gives */
+}
+
+ferghulta_next_answer ferghulta_read_next(
+    ferghulta_reader reader, const uint8_t *bytes, size_t length, uint16_t *codes, size_t places)
+{
+    static uint16_t read[MOST_CODES];
+    static ferghulta_reader last;
+    if (mutant(0))
+        return right_ferghulta_read_next(reader, bytes, length, codes, places);
+    if (mutant(328))
+        kept = bytes[length]; /* read behind the block */
+    ferghulta_reader taken = mutant(329) ? last : reader; /* 329: the one that the call before gave, whatever is given */
+    struct given g = { bytes, length, places, right_ferghulta_read_block(bytes, length, read, MOST_CODES), read };
+    uint32_t refusal = refusal_of_next(taken, g);
+    ferghulta_next_answer answer = { refused_reader(reader, g, refusal), refused_block(g, refusal) };
+    if (refusal == 0) {
+        answer.reader = reader_after(taken, g.block);
+        answer.block = accepted_block(taken, g.block);
+    }
+    write_codes(taken, g, refusal, codes);
+    if (mutant(352) && refusal == 0)
+        ((uint8_t *)bytes)[1] += 1; /* the block is changed */
+    last = answer.reader;
+    return answer;
+}
+
+ferghulta_reader ferghulta_new_reader(void)
+{
+    if (mutant(330))
+        return (ferghulta_reader){ FERGHULTA_COMPLETE, 0, 0, 0, 0 };
+    return right_ferghulta_new_reader();
+}
+
+/* Whether a height is one. */
+static int is_height(uint32_t height)
+{
+    if (mutant(331) && height == 0)
+        return 1;
+    if (mutant(332) && height == MOST_ROWS + 1)
+        return 1;
+    if (mutant(333) && height == MOST_ROWS)
+        return 0;
+    return 1 <= height && height <= MOST_ROWS;
+}
+
+/* The refusal of an opening, made wrong. */
+static uint32_t refusal_of_opening(ferghulta_reader r, uint32_t height)
+{
+    if (mutant(334) && is_reading(r))
+        return 21; /* while reading, as a picture */
+    if (mutant(335) && is_reading(r) && r.next > 0)
+        return 36; /* while rows are missing */
+    if (mutant(336) && r.phase == FERGHULTA_COMPLETE)
+        return 36; /* when complete */
+    if (mutant(337) && r.phase == FERGHULTA_READING && !is_reading(r))
+        return 36; /* of a reader that no call gives */
+    if (mutant(338) && !is_height(height))
+        return 2; /* the width's */
+    return is_height(height) ? 0 : 3;
+}
+
+/* The reader of a refused opening, made wrong. */
+static ferghulta_reader refused_opening(ferghulta_reader r)
+{
+    ferghulta_reader none = { FERGHULTA_UNOPENED, 0, 0, 0, 0 };
+    if (mutant(339) || (mutant(340) && is_reading(r)) || (mutant(341) && r.phase == FERGHULTA_COMPLETE))
+        return none; /* it is reset; it is while reading; it is when complete */
+    if (mutant(342) && r.phase == FERGHULTA_READING && !is_reading(r))
+        return none; /* what it is taken for */
+    if (mutant(343) && is_reading(r))
+        r.next = 0; /* row 0 is due again */
+    return r;
+}
+
+/* The opened reader, made wrong. */
+static ferghulta_reader opened_reader(ferghulta_reader r, uint32_t height)
+{
+    ferghulta_reader opened = { FERGHULTA_READING, 0, 0, (uint16_t)height, 0 };
+    if (mutant(344) && is_reading(r))
+        opened.next = r.next; /* goes on */
+    if (mutant(345) && is_reading(r)) { /* the kind is kept */
+        opened.system = r.system;
+        opened.width = r.width;
+    }
+    if (mutant(346) && is_reading(r))
+        return r; /* one that reads is left as it is */
+    if (mutant(347))
+        opened.height -= 1; /* the last row's number */
+    if (mutant(348) && r.phase == FERGHULTA_COMPLETE)
+        return r; /* it stays complete */
+    if (mutant(349) && r.phase != FERGHULTA_READING && r.width > 0)
+        opened.width = r.width; /* a number that must not matter is kept */
+    return opened;
+}
+
+ferghulta_reader_answer ferghulta_open_reader(ferghulta_reader reader, uint32_t height)
+{
+    if (mutant(0))
+        return right_ferghulta_open_reader(reader, height);
+    if (mutant(350))
+        height %= 65536;
+    uint32_t refusal = refusal_of_opening(reader, height);
+    return (ferghulta_reader_answer){ refusal, refusal == 0 ? opened_reader(reader, height) : refused_opening(reader) };
 }

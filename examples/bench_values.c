@@ -407,6 +407,133 @@ static void rows_in_any_order(void) {
     expect("bytes of copies", joined.bytes, picture.bytes);
 }
 
+static int is_reader(ferghulta_reader reader, uint8_t phase, uint8_t system, uint16_t width, uint16_t height,
+                     uint16_t next) {
+    return reader.phase == phase && reader.system == system && reader.width == width && reader.height == height &&
+           reader.next == next;
+}
+
+static int is_same_reader(ferghulta_reader one, ferghulta_reader other) {
+    return memcmp(&one, &other, sizeof one) == 0;
+}
+
+/* A block of greys with this row number. */
+static uint8_t *grey_row(uint8_t system, unsigned samples, unsigned row) {
+    static uint8_t block[FERGHULTA_BLOCK_BYTES(8)];
+    const uint16_t grey = (uint16_t)(128 * scales[system - 1]);
+    const ferghulta_words words = {grey, grey, grey};
+    fill_block_of(system, block, samples, &words, 1);
+    put(block + 1, row);
+    return block;
+}
+
+/* A read that is accepted gives what block reading gives, and the codes behind the row stay. */
+static void expect_next(ferghulta_reader *reader, uint8_t system, unsigned samples, unsigned row) {
+    uint16_t codes[25] = {0};
+    codes[3 * samples] = 9;
+    const ferghulta_block_answer answer =
+        ferghulta_read_next_of(reader, grey_row(system, samples, row), FERGHULTA_BLOCK_BYTES(samples), codes, 25);
+    expect("row in turn", answer.refusal, 0);
+    expect("its system", answer.system, system);
+    expect("its number", answer.row, row);
+    expect("its samples", answer.samples, samples);
+    expect_clips(answer.clips, 0, 0);
+    for (unsigned j = 0; j <= 3 * samples; j++)
+        expect("its code", codes[j], j < 3 * samples ? 128ul * scales[system - 1] : 9);
+}
+
+/* One that is refused changes neither the reader nor a code, and its other numbers are 0. */
+static void expect_no_next(ferghulta_reader reader, const uint8_t *block, size_t length, size_t places,
+                           uint32_t refusal) {
+    uint16_t codes[24] = {7, 8, 9};
+    static const uint16_t lent[24] = {7, 8, 9};
+    const ferghulta_next_answer answer = ferghulta_read_next(reader, block, length, codes, places);
+    expect("row refused", answer.block.refusal, refusal);
+    expect("a refused row's numbers", answer.block.system + answer.block.row + answer.block.samples, 0);
+    expect_clips(answer.block.clips, 0, 0);
+    expect("reader of a refused row", is_same_reader(answer.reader, reader), 1);
+    expect("codes of a refused row", memcmp(codes, lent, sizeof codes) == 0, 1);
+}
+
+/* A picture of three rows with refused ones between, then one of another system and width with the same reader. */
+static void readers(void) {
+    ferghulta_reader reader = ferghulta_new_reader();
+    expect("a new reader", is_reader(reader, FERGHULTA_UNOPENED, 0, 0, 0, 0), 1);
+    expect_no_next(reader, grey_row(1, 2, 0), 21, 6, FERGHULTA_REFUSED_NOT_READING);
+    expect("open a reader", ferghulta_open_reader_of(&reader, 3), 0);
+    expect("an opened reader", is_reader(reader, FERGHULTA_READING, 0, 0, 3, 0), 1);
+    expect_no_next(reader, grey_row(1, 2, 1), 21, 6, FERGHULTA_REFUSED_TURN);
+    expect_next(&reader, 1, 2, 0);
+    expect("a reader with a row", is_reader(reader, FERGHULTA_READING, 1, 2, 3, 1), 1);
+    expect_no_next(reader, grey_row(1, 2, 0), 21, 6, FERGHULTA_REFUSED_TURN);
+    expect_no_next(reader, grey_row(1, 2, 2), 21, 6, FERGHULTA_REFUSED_TURN);
+    expect_no_next(reader, grey_row(2, 2, 1), 21, 6, FERGHULTA_REFUSED_UNLIKE);
+    expect_no_next(reader, grey_row(1, 3, 1), 27, 9, FERGHULTA_REFUSED_UNLIKE);
+    expect_next(&reader, 1, 2, 1);
+    expect_next(&reader, 1, 2, 2);
+    expect("a complete reader", is_reader(reader, FERGHULTA_COMPLETE, 0, 0, 0, 0), 1);
+    expect_no_next(reader, grey_row(1, 2, 3), 21, 6, FERGHULTA_REFUSED_NOT_READING);
+    expect_no_next(reader, grey_row(1, 2, 0), 21, 6, FERGHULTA_REFUSED_NOT_READING);
+    expect("open it again", ferghulta_open_reader_of(&reader, 2), 0);
+    expect_next(&reader, 4, 8, 0);
+    expect("a reader of another picture", is_reader(reader, FERGHULTA_READING, 4, 8, 2, 1), 1);
+    expect("open it while it reads", ferghulta_open_reader_of(&reader, 1), 0);
+    expect("a reader that starts anew", is_reader(reader, FERGHULTA_READING, 0, 0, 1, 0), 1);
+    expect_next(&reader, 3, 1, 0);
+    expect("complete after one row", reader.phase, FERGHULTA_COMPLETE);
+}
+
+/* Each with the condition of the next one. */
+static void refused_rows(void) {
+    ferghulta_reader reader = ferghulta_open_reader(ferghulta_new_reader(), FERGHULTA_MOST_ROWS).reader;
+    expect_next(&reader, 2, 2, 0);
+    uint8_t *block = grey_row(4, 1, 7);
+    block[5] = block[6] = 0xFF;
+    expect_no_next(ferghulta_new_reader(), block, 0, 0, FERGHULTA_REFUSED_NOT_READING);
+    expect_no_next(reader, block, 0, 0, FERGHULTA_REFUSED_BLOCK_END);
+    expect_no_next(reader, block, 15, 0, FERGHULTA_REFUSED_CODE);
+    block = grey_row(4, 1, 7);
+    expect_no_next(reader, block, 15, 2, FERGHULTA_REFUSED_OUTPUT);
+    expect_no_next(reader, block, 15, 3, FERGHULTA_REFUSED_TURN);
+    expect_no_next(reader, grey_row(4, 1, 1), 15, 3, FERGHULTA_REFUSED_UNLIKE);
+    expect_no_next(reader, grey_row(2, 2, 4320), 21, 6, FERGHULTA_REFUSED_ROW_NUMBER);
+    expect_next(&reader, 2, 2, 1);
+}
+
+/* Readers in each phase, of which the first two are reading, and readers that no call gives: they are not opened. A
+ * refused opening changes none, and another opens them all. */
+static void refused_and_other_readers(void) {
+    static const ferghulta_reader given[] = {
+        {1, 0, 0, 9, 0},  {1, 2, 7, 9, 8},    {0, 0, 0, 0, 0},    {2, 0, 0, 0, 0},   {3, 2, 1, 9, 1},
+        {1, 2, 1, 0, 0},  {1, 2, 1, 9, 0},    {1, 0, 0, 9, 1},    {1, 2, 0, 9, 1},   {1, 0, 1, 9, 1},
+        {1, 5, 1, 9, 1},  {1, 2, 7681, 9, 1}, {1, 2, 1, 4321, 1}, {1, 2, 1, 1, 1},   {1, 2, 1, 9, 9},
+        {1, 2, 1, 9, 10}, {2, 2, 1, 9, 1},    {0, 2, 1, 9, 1},    {255, 2, 1, 9, 1}, {1, 0, 0, 0, 0},
+    };
+    static const uint32_t heights[] = {0, 4321, 65537, 0xFFFFFFFFu};
+    for (size_t i = 0; i < sizeof given / sizeof *given; i++) {
+        for (int h = 0; h < 4; h++) {
+            const ferghulta_reader_answer refused = ferghulta_open_reader(given[i], heights[h]);
+            expect("height of a reader", refused.refusal, FERGHULTA_REFUSED_HEIGHT);
+            expect("reader of a refused opening", is_same_reader(refused.reader, given[i]), 1);
+        }
+        const ferghulta_reader_answer opened = ferghulta_open_reader(given[i], 4320);
+        expect("reader opened", opened.refusal, 0);
+        expect("whatever it was", is_reader(opened.reader, FERGHULTA_READING, 0, 0, 4320, 0), 1);
+        const uint32_t refusal = i < 2 ? FERGHULTA_REFUSED_TURN : FERGHULTA_REFUSED_NOT_READING;
+        expect_no_next(given[i], grey_row(2, 1, given[i].next + 1u), 15, 3, refusal);
+    }
+}
+
+/* The highest picture there is. */
+static void highest_reading(void) {
+    ferghulta_reader reader = ferghulta_open_reader(ferghulta_new_reader(), FERGHULTA_MOST_ROWS).reader;
+    for (unsigned row = 0; row < FERGHULTA_MOST_ROWS; row++) {
+        expect("reading", reader.phase == FERGHULTA_READING && reader.next == row, 1);
+        expect_next(&reader, 3, 1, row);
+    }
+    expect("complete after 4320 rows", is_reader(reader, FERGHULTA_COMPLETE, 0, 0, 0, 0), 1);
+}
+
 /* Rows of 3 bytes, of which each has its active line: by total line, and back. */
 static void segments(void) {
     enum { LINES = FERGHULTA_SEGMENTED_LINES };
@@ -514,7 +641,7 @@ static void refusal_texts(void) {
     unsigned listed = 0;
     for (uint32_t number = 1; number < 256; number++)
         listed += strcmp(ferghulta_refusal_text(number), ferghulta_refusal_text(256)) != 0;
-    expect("refusals with words", listed, 18);
+    expect("refusals with words", listed, 21);
     expect("accepted in words", strcmp(ferghulta_refusal_text(FERGHULTA_ACCEPTED), "accepted") == 0, 1);
 }
 
@@ -542,6 +669,10 @@ int main(void) {
     refused_and_other_meters();
     widest_metered_rows();
     rows_in_any_order();
+    readers();
+    refused_rows();
+    refused_and_other_readers();
+    highest_reading();
     segments();
     depths();
     refused_depths();

@@ -4,8 +4,8 @@
 
 use core::fmt;
 
-/// The version of the header that this file follows, as one number: 50200 is 5.2.0.
-pub const VERSION: u32 = 50200;
+/// The version of the header that this file follows, as one number: 50300 is 5.3.0.
+pub const VERSION: u32 = 50300;
 
 /// The version of the archive that the program is linked with.
 #[must_use]
@@ -45,9 +45,12 @@ pub enum Refusal {
     Length = 31,
     Target = 32,
     Timing = 33,
+    Turn = 34,
+    Unlike = 35,
+    NotReading = 36,
 }
 
-const REFUSALS: [(Refusal, &str); 18] = [
+const REFUSALS: [(Refusal, &str); 21] = [
     (Refusal::System, "system not 1 to 4"),
     (Refusal::Width, "width not 1 to 7680"),
     (Refusal::Height, "height not 1 to 4320"),
@@ -66,6 +69,9 @@ const REFUSALS: [(Refusal, &str); 18] = [
     (Refusal::Length, "buffer length 0, no multiple of 1080, or unlike the other's"),
     (Refusal::Target, "target system equal to the block's, or of the other Recommendation"),
     (Refusal::Timing, "word of the result in the timing codes"),
+    (Refusal::Turn, "block's row number not the next one"),
+    (Refusal::Unlike, "block's system or count unlike the first one's"),
+    (Refusal::NotReading, "block before opening or when complete"),
 ];
 
 impl Refusal {
@@ -221,6 +227,9 @@ unsafe extern "C" {
     fn ferghulta_read_block(bytes: *const u8, length: usize, codes: *mut u16, places: usize) -> Answer<NumberedBlock>;
     fn ferghulta_read_metered(m: Meter, bytes: *const u8, length: usize, codes: *mut u16, places: usize) -> Metered;
     safe fn ferghulta_meter_figures(meter: Meter) -> Figures;
+    safe fn ferghulta_new_reader() -> KeptReader;
+    safe fn ferghulta_open_reader(reader: KeptReader, height: u32) -> Answer<KeptReader>;
+    fn ferghulta_read_next(r: KeptReader, bytes: *const u8, length: usize, codes: *mut u16, places: usize) -> ReadNext;
     fn ferghulta_to_segmented(progressive: *const u8, length: usize, segmented: *mut u8, room: usize) -> u32;
     fn ferghulta_to_progressive(segmented: *const u8, length: usize, progressive: *mut u8, room: usize) -> u32;
     fn ferghulta_change_depth(target: System, block: *const u8, length: usize, out: *mut u8, room: usize) -> u32;
@@ -424,5 +433,68 @@ impl Picture {
     fn become_next(&mut self, answer: Answer<Kept>) -> Result<(), Refusal> {
         self.0 = answer.result()?;
         Ok(())
+    }
+}
+
+/// Reads the blocks of a picture in turn, which have one system and one width. Its own calls alone change it, and a
+/// refused one leaves it as it was.
+#[derive(Clone)]
+#[must_use]
+pub struct Reader(KeptReader);
+
+#[derive(Clone, Copy)]
+#[repr(C)]
+struct KeptReader {
+    phase: u8,
+    system: u8,
+    width: u16,
+    height: u16,
+    next: u16,
+}
+
+#[repr(C)]
+struct ReadNext {
+    reader: KeptReader,
+    block: Answer<NumberedBlock>,
+}
+
+impl Reader {
+    /// A reader that is not opened.
+    #[allow(clippy::new_without_default)]
+    pub fn new() -> Reader {
+        Reader(ferghulta_new_reader())
+    }
+
+    /// Starts it anew, also while it is reading or complete.
+    pub fn open(&mut self, height: u32) -> Result<(), Refusal> {
+        self.0 = ferghulta_open_reader(self.0, height).result()?;
+        Ok(())
+    }
+
+    /// Reads the block of the row that is due as `read_block` does.
+    pub fn read(&mut self, bytes: &[u8], codes: &mut [u16]) -> Result<Block, Refusal> {
+        let (from, to) = (bytes, codes);
+        // SAFETY: both slices are lent for the call with their own lengths, and a slice's pointer is never null.
+        let answer = unsafe { ferghulta_read_next(self.0, from.as_ptr(), from.len(), to.as_mut_ptr(), to.len()) };
+        self.0 = answer.reader;
+        block_of(answer.block)
+    }
+
+    /// The number of the row that is due, which is how many were accepted since opening; none while it is not reading.
+    #[must_use]
+    pub fn next_row(&self) -> Option<u16> {
+        (self.0.phase == 1).then_some(self.0.next)
+    }
+
+    /// The height of the picture that it reads; none while it is not reading.
+    #[must_use]
+    pub fn height(&self) -> Option<u16> {
+        (self.0.phase == 1).then_some(self.0.height)
+    }
+
+    /// Whether every row was accepted since it was opened.
+    #[must_use]
+    pub fn is_complete(&self) -> bool {
+        self.0.phase == 2
     }
 }

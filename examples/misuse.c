@@ -17,6 +17,10 @@ ferghulta_meter metered(ferghulta_meter meter);
 uint32_t metered_of(ferghulta_meter *meter);
 uint32_t segmented(void);
 uint32_t deepened(void);
+ferghulta_reader opened(ferghulta_reader reader);
+ferghulta_reader read_in_turn(ferghulta_reader reader);
+uint32_t opened_of(ferghulta_reader *reader);
+uint32_t read_in_turn_of(ferghulta_reader *reader);
 
 ferghulta_picture sent(ferghulta_picture picture) {
 #if MISUSE == 2
@@ -85,4 +89,38 @@ uint32_t deepened(void) {
     if (ferghulta_change_depth(2, bytes, sizeof bytes, 0, 0)) return 1; /* null with a count of 0 */
 #endif
     return ferghulta_change_depth(2, bytes, sizeof bytes, rows[0], sizeof rows[0]);
+}
+
+ferghulta_reader opened(ferghulta_reader reader) {
+#if MISUSE == 13
+    ferghulta_open_reader(reader, 1); /* the opened reader is dropped */
+#else
+    reader = ferghulta_open_reader(reader, 1).reader;
+#endif
+    return reader.phase == FERGHULTA_READING ? reader : ferghulta_new_reader();
+}
+
+ferghulta_reader read_in_turn(ferghulta_reader reader) {
+#if MISUSE == 14
+    ferghulta_read_next(reader, bytes, sizeof bytes, words, 3); /* the next reader is dropped */
+#else
+    reader = ferghulta_read_next(reader, bytes, sizeof bytes, words, 3).reader;
+#endif
+    return reader;
+}
+
+uint32_t opened_of(ferghulta_reader *reader) {
+#if MISUSE == 15
+    ferghulta_open_reader_of(reader, 1); /* the refusal is dropped */
+#endif
+    return ferghulta_open_reader_of(reader, 1);
+}
+
+uint32_t read_in_turn_of(ferghulta_reader *reader) {
+#if MISUSE == 16
+    ferghulta_read_next_of(reader, bytes, sizeof bytes, words, 3); /* the refusal is dropped */
+#elif MISUSE == 17
+    if (ferghulta_read_next_of(reader, bytes, 0, 0, 0).refusal) return 1; /* null with a count of 0 */
+#endif
+    return ferghulta_read_next_of(reader, bytes, sizeof bytes, words, 3).refusal;
 }

@@ -1,6 +1,6 @@
 /* In each system a picture is sent, rows of a ramp and of random light in turn, and read back. Then a picture in
- * segmented-frame order, a row in another depth, words beyond nominal, a meter, and some calls that are refused.
- * `make example` builds and runs it; examples/ramp.rs is the same program in Rust. */
+ * segmented-frame order, a row in another depth, words beyond nominal, a meter, a picture read in turn, and some calls
+ * that are refused. `make example` builds and runs it; examples/ramp.rs is the same program in Rust. */
 #include <stdio.h>
 #include <stdlib.h>
 #include <string.h>
@@ -172,6 +172,42 @@ static void show(const char *call, uint32_t refusal) {
     printf("%-32s %2u  %s\n", call, (unsigned)refusal, ferghulta_refusal_text(refusal));
 }
 
+/* Sends one row of a ramp, of so many samples and with this number; the block goes to the front of `to`. */
+static void send_row(uint32_t width, unsigned row, uint8_t *to) {
+    ferghulta_picture picture = ferghulta_new();
+    must_accept(ferghulta_open_of(&picture, FERGHULTA_BT709_10, width, FERGHULTA_MOST_ROWS));
+    picture = ferghulta_at_row(picture, (uint16_t)row);
+    ramp(row);
+    must_accept(ferghulta_row_of(&picture, lights, FERGHULTA_ROW_CODES(width), to, FERGHULTA_BLOCK_BYTES(width)));
+}
+
+static void give(const char *which, ferghulta_reader *reader, const uint8_t *bytes, size_t length) {
+    show(which, ferghulta_read_next_of(reader, bytes, length, codes, LIGHTS).refusal);
+}
+
+/* A picture of two rows, read in turn: a row that comes too early and one of another width change nothing, and the
+ * right one goes on. */
+static void rows_in_turn(void) {
+    enum { ROWS = 2, NARROW = 960, BYTES = sizeof block };
+    static uint8_t sent[ROWS][BYTES];
+    for (unsigned row = 0; row < ROWS; row++) send_row(WIDTH, row, sent[row]);
+    send_row(NARROW, 1, block);
+
+    ferghulta_reader reader = ferghulta_new_reader();
+    give("a block before opening", &reader, sent[0], BYTES);
+    must_accept(ferghulta_open_reader_of(&reader, ROWS));
+    give("row 1 where row 0 is due", &reader, sent[1], BYTES);
+    give("row 0", &reader, sent[0], BYTES);
+    give("row 0 again", &reader, sent[0], BYTES);
+    give("row 1, half as wide", &reader, block, FERGHULTA_BLOCK_BYTES(NARROW));
+    printf("%-32s row %u is due, of %u rows\n", "then", (unsigned)reader.next, (unsigned)reader.height);
+    give("row 1", &reader, sent[1], BYTES);
+    ramp(1);
+    const char *phase = reader.phase == FERGHULTA_COMPLETE ? "complete" : "not complete";
+    printf("%-32s the picture is %s, worst distance %d\n", "then", phase, worst_distance(FERGHULTA_BT709_10, 0));
+    give("a row more", &reader, sent[1], BYTES);
+}
+
 /* A refused call changes nothing: the picture goes on as it was. */
 static void refusals(void) {
     static const uint8_t bright[] = {2, 0, 0, 1, 0, 0xFA, 3, 1, 0, 0, 2, 1, 0, 0, 2}; /* Y' 1018 in 10 bits */
@@ -208,6 +244,8 @@ int main(void) {
     lamps();
     saturated_words();
     metered_rows();
+    printf("\n%-32s %s\n", "block given to a reader", "number and meaning");
+    rows_in_turn();
     printf("\n%-32s %s\n", "refused call", "number and meaning");
     refusals();
     return EXIT_SUCCESS;

@@ -1,6 +1,6 @@
 //! examples/ramp.c in Rust: the same calls, the same lines. `make example-rust` runs it and compares the two.
 use ferghulta::{change_depth, read_block, to_progressive, to_segmented, version, VERSION};
-use ferghulta::{Codes, Decoded, Encoding, Figures, Level, Limited, Meter, Picture, Refusal, System, Words};
+use ferghulta::{Codes, Decoded, Encoding, Figures, Level, Limited, Meter, Picture, Reader, Refusal, System, Words};
 
 const WIDTH: usize = 1920;
 const HEIGHT: usize = 32;
@@ -156,6 +156,42 @@ fn show<T>(call: &str, result: Result<T, Refusal>) {
     }
 }
 
+/// Sends one row, of so many lights and with this number.
+fn send_row(lights: &[u16], row: u16) -> Result<Vec<u8>, Refusal> {
+    let width = lights.len() / 3;
+    let mut block = vec![0; 9 + 6 * width];
+    let mut picture = Picture::new();
+    picture.open(System::Bt709Bits10, width as u32, 4320)?;
+    picture.with_rows(row).row(lights, &mut block)?;
+    Ok(block)
+}
+
+/// A picture of two rows, read in turn: a row that comes too early and one of another width change nothing, and the
+/// right one goes on.
+fn rows_in_turn() -> Result<(), Refusal> {
+    let lights = [ramp(0), ramp(1)];
+    let sent = [send_row(&lights[0], 0)?, send_row(&lights[1], 1)?];
+    let narrow = send_row(&lights[1][..3 * 960], 1)?;
+    let mut codes = [0; LIGHTS];
+
+    let mut reader = Reader::new();
+    show("a block before opening", reader.read(&sent[0], &mut codes));
+    reader.open(2)?;
+    show("row 1 where row 0 is due", reader.read(&sent[1], &mut codes));
+    show("row 0", reader.read(&sent[0], &mut codes));
+    show("row 0 again", reader.read(&sent[0], &mut codes));
+    show("row 1, half as wide", reader.read(&narrow, &mut codes));
+    if let (Some(next), Some(height)) = (reader.next_row(), reader.height()) {
+        println!("{:<32} row {next} is due, of {height} rows", "then");
+    }
+    show("row 1", reader.read(&sent[1], &mut codes));
+    let worst = worst_distance(System::Bt709Bits10, &lights[1], &codes);
+    let phase = if reader.is_complete() { "complete" } else { "not complete" };
+    println!("{:<32} the picture is {phase}, worst distance {worst}", "then");
+    show("a row more", reader.read(&sent[1], &mut codes));
+    Ok(())
+}
+
 /// A refused call changes nothing: the picture goes on as it was.
 fn refusals() -> Result<(), Refusal> {
     let system = System::Bt709Bits8;
@@ -198,6 +234,8 @@ fn main() -> Result<(), Refusal> {
     lamps()?;
     saturated_words()?;
     metered_rows()?;
+    println!("\n{:<32} number and meaning", "block given to a reader");
+    rows_in_turn()?;
     println!("\n{:<32} number and meaning", "refused call");
     refusals()
 }

@@ -16,11 +16,11 @@
  * - The calls on signals need floating point as a C program starts with it: rounding to nearest, subnormals kept (a
  *   program linked with -ffast-math drops them, and a signal just below 0 would pass for 0).
  *
- * An answer has a field `refusal`, a metered one in its `block`: 0 where the call was accepted, else the number of the
- * refusal. Then the answer's other numbers are 0, lent memory is as it was, and a picture or a meter comes back as it
- * was given. Compilers warn where an answer is dropped: a picture that is dropped after a row gives the next row the
- * same number, and only close tells; where a meter is dropped after a read, the figures lack that row, and nothing
- * tells.
+ * An answer has a field `refusal`, that of a read with a meter or a reader in its `block`: 0 where the call was
+ * accepted, else the number of the refusal. Then the answer's other numbers are 0, lent memory is as it was, and a
+ * picture, a meter or a reader comes back as it was given. Compilers warn where an answer is dropped: a picture that is
+ * dropped after a row gives the next row the same number, and only close tells; where a meter is dropped after a read,
+ * the figures lack that row, and nothing tells; where a reader is dropped after a read, the next row is refused.
  */
 #ifndef FERGHULTA_H
 #define FERGHULTA_H
@@ -29,11 +29,11 @@
 #include <stdint.h>
 
 #define FERGHULTA_VERSION_MAJOR 5
-#define FERGHULTA_VERSION_MINOR 2
+#define FERGHULTA_VERSION_MINOR 3
 #define FERGHULTA_VERSION_PATCH 0
-#define FERGHULTA_VERSION "5.2.0"
+#define FERGHULTA_VERSION "5.3.0"
 
-/* The version as one number to compare, in #if too: 50200 is 5.2.0. CHANGELOG.md says what a version promises. */
+/* The version as one number to compare, in #if too: 50300 is 5.3.0. CHANGELOG.md says what a version promises. */
 #define FERGHULTA_VERSION_NUMBER                                                                                       \
     (10000 * FERGHULTA_VERSION_MAJOR + 100 * FERGHULTA_VERSION_MINOR + FERGHULTA_VERSION_PATCH)
 
@@ -73,8 +73,8 @@ enum ferghulta_system {
     FERGHULTA_BT2020_12 = 4  /* s = 16 */
 };
 
-/* What a refusal's number says. State (21 to 24) is tested first, then input in the order of the numbers; the tests of
- * a block are in the order that ferghulta_read_block and ferghulta_change_depth name. */
+/* What a refusal's number says. State (21 to 24, and 36) is tested first, then input in the order of the numbers; the
+ * tests of a block are in the order that ferghulta_read_block, ferghulta_read_next and ferghulta_change_depth name. */
 enum ferghulta_refusal {
     FERGHULTA_ACCEPTED = 0,
     FERGHULTA_REFUSED_SYSTEM = 1,        /* system not 1 to 4 */
@@ -94,7 +94,10 @@ enum ferghulta_refusal {
     FERGHULTA_REFUSED_ROWS_MISSING = 24, /* close with rows missing */
     FERGHULTA_REFUSED_LENGTH = 31,       /* buffer length 0, no multiple of 1080, or unlike the other's */
     FERGHULTA_REFUSED_TARGET = 32,       /* target system equal to the block's, or of the other Recommendation */
-    FERGHULTA_REFUSED_TIMING = 33        /* word of the result in the timing codes */
+    FERGHULTA_REFUSED_TIMING = 33,       /* word of the result in the timing codes */
+    FERGHULTA_REFUSED_TURN = 34,         /* block's row number not the next one */
+    FERGHULTA_REFUSED_UNLIKE = 35,       /* block's system or count unlike the first one's */
+    FERGHULTA_REFUSED_NOT_READING = 36   /* block before opening or when complete */
 };
 
 /* The same in words, for people; programs compare the number. */
@@ -119,6 +122,9 @@ FERGHULTA_MUST_USE static __inline const char *ferghulta_refusal_text(uint32_t r
     case FERGHULTA_REFUSED_LENGTH: return "buffer length 0, no multiple of 1080, or unlike the other's";
     case FERGHULTA_REFUSED_TARGET: return "target system equal to the block's, or of the other Recommendation";
     case FERGHULTA_REFUSED_TIMING: return "word of the result in the timing codes";
+    case FERGHULTA_REFUSED_TURN: return "block's row number not the next one";
+    case FERGHULTA_REFUSED_UNLIKE: return "block's system or count unlike the first one's";
+    case FERGHULTA_REFUSED_NOT_READING: return "block before opening or when complete";
     default: return "not a refusal of this version";
     }
 }
@@ -391,6 +397,62 @@ FERGHULTA_MUST_USE FERGHULTA_NONNULL static __inline uint32_t ferghulta_close_of
     return answer.refusal;
 }
 
+/* ---- Picture readers: the blocks of a picture, read in turn. A reader is opened with the picture's height; the first
+ * block is that of row 0, whose system and width are the picture's, and each later one has the next row number, that
+ * system and that width. After `height` rows the reader is complete. */
+
+enum ferghulta_reader_phase { FERGHULTA_UNOPENED = 0, FERGHULTA_READING = 1, FERGHULTA_COMPLETE = 2 };
+
+/* A reader in eight bytes, which the caller keeps: a call is given it and answers with the reader that the next call is
+ * to be given. Read its fields freely, and let the calls change them. While it is not reading all fields but the phase
+ * are 0, and all zero is a reader that is not opened; of a reader that is not reading the calls read the phase alone. A
+ * value that no call gives (another phase, or reading with a number out of its range, with a `next` that is not below
+ * the height, or with some of system, width and `next` at 0 and not all) is taken as not opened. */
+typedef struct ferghulta_reader {
+    uint8_t phase, system;        /* system and width: of the first block accepted since opening, 0 before it */
+    uint16_t width, height, next; /* next: the number of the row that is due, which is how many were accepted */
+} ferghulta_reader;
+
+typedef struct ferghulta_reader_answer {
+    uint32_t refusal;
+    ferghulta_reader reader;
+} ferghulta_reader_answer;
+
+typedef struct ferghulta_next_answer {
+    ferghulta_reader reader;      /* which the next call is to be given */
+    ferghulta_block_answer block; /* has the refusal */
+} ferghulta_next_answer;
+
+/* A reader that is not opened. */
+FERGHULTA_MUST_USE ferghulta_reader ferghulta_new_reader(void);
+
+/* Opens a reader, also one that is reading or complete: it starts anew, and row 0 is due. Refused: 3. */
+FERGHULTA_MUST_USE ferghulta_reader_answer ferghulta_open_reader(ferghulta_reader reader, uint32_t height);
+
+/* Reads the block of the row that is due as ferghulta_read_block does, with its answer and its codes. Refused: 36; then
+ * what ferghulta_read_block refuses, in its order, 5 included; 34, 35. */
+FERGHULTA_MUST_USE FERGHULTA_NONNULL ferghulta_next_answer
+ferghulta_read_next(ferghulta_reader reader, const uint8_t *__restrict bytes, size_t length, uint16_t *__restrict codes,
+                    size_t places);
+
+/* ---- The same on a reader in place, which is changed where the call is accepted. Opening returns the refusal, and a
+ * read returns the block's answer. */
+
+FERGHULTA_MUST_USE FERGHULTA_NONNULL static __inline uint32_t ferghulta_open_reader_of(ferghulta_reader *reader,
+                                                                                       uint32_t height) {
+    const ferghulta_reader_answer answer = ferghulta_open_reader(*reader, height);
+    *reader = answer.reader;
+    return answer.refusal;
+}
+
+FERGHULTA_MUST_USE FERGHULTA_NONNULL static __inline ferghulta_block_answer
+ferghulta_read_next_of(ferghulta_reader *__restrict reader, const uint8_t *__restrict bytes, size_t length,
+                       uint16_t *__restrict codes, size_t places) {
+    const ferghulta_next_answer answer = ferghulta_read_next(*reader, bytes, length, codes, places);
+    *reader = answer.reader;
+    return answer.block;
+}
+
 /* ---- Segmented frames: the 1080 equally long rows of a progressive picture, whatever bytes they are (its row blocks,
  * say), from one buffer to another. Active line a, 1 to 1080, is on total line 21 + (a - 1) / 2 if a is odd, and on
  * 584 + (a - 2) / 2 if it is even; the segmented buffer has the rows in rising total line, the odd lines and then the
@@ -445,6 +507,9 @@ FERGHULTA_LAYOUT(ferghulta_figures, 12);         /* 4 + 4 + 4 */
 FERGHULTA_LAYOUT(ferghulta_total_answer, 8);     /* 4 + 4 */
 FERGHULTA_LAYOUT(ferghulta_picture, 12);         /* 2 + 6 + 4 */
 FERGHULTA_LAYOUT(ferghulta_picture_answer, 16);  /* 4 + 12 */
+FERGHULTA_LAYOUT(ferghulta_reader, 8);           /* 2 + 6 */
+FERGHULTA_LAYOUT(ferghulta_reader_answer, 12);   /* 4 + 8 */
+FERGHULTA_LAYOUT(ferghulta_next_answer, 24);     /* 8 + 16 */
 #undef FERGHULTA_LAYOUT
 
 #endif

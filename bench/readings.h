@@ -1,10 +1,10 @@
-// What it costs to read blocks with a meter, beside reading the same blocks without one.
-#ifndef METERS_H
-#define METERS_H
+// What it costs to read blocks with a meter, and through a reader, beside reading the same blocks by themselves.
+#ifndef READINGS_H
+#define READINGS_H
 
 #include "rows.h"
 
-enum { READINGS = 2 };
+enum { READINGS = 3 };
 
 struct reading {
     const char *name;

@@ -2,14 +2,13 @@
 -- Assumes nothing.
 use Prim.Native.Nat.{ℕ}
 use mathlib.Core.Path.{_≡_, refl, sym, ap, _∙_}
-use mathlib.Core.Bool.{Bool, true, false, _&&_, cond}
+use mathlib.Core.Bool.{Bool, false, _&&_}
 use mathlib.Core.List.{List, map}
 use native.Mathlib.Omega.{arith}
 use lib.Dec.{eqb}
 use lib.ListN.{length}
 use denote.Ref.{now}
 use borrow.Author.Tests.{eqb-true}
-use Rattle.exact.specs.Outcome as outcome
 use Rattle.exact.specs.Outcome.{Outcome, accepted, refused}
 use Rattle.exact.proofs.Lending.{lend, lifetimes}
 use Rattle.systems.specs.declared.System.{System}
@@ -35,14 +34,12 @@ use Rattle.reader.proofs.Card.{nextReader, isComplete}
 use Rattle.reader.proofs.Claims.{call, answer, Claimed, Together}
 use Rattle.reader.proofs.Lists as lists
 use Rattle.reader.proofs.Lists.{Follows, Faithful, claimed, opening-answerable, taking-answerable}
-use Rattle.reader.proofs.Resume.{Proper, ProperAt, resumed-proper, resumed-same, open-proper, read-proper}
+use Rattle.reader.proofs.Resume.{Proper, resumed-proper, resumed-same, open-proper, read-proper}
 use Rattle.reader.proofs.Return.{together}
 use Rattle.reader.proofs.Steps.{stateOf}
-use Rattle.ferghulta.specs.declared.calls.BlockAnswer.{BlockAnswer}
 use Rattle.ferghulta.specs.declared.stored_reader.StoredReader.{StoredReader}
 use Rattle.ferghulta.specs.declared.reader_calls.ReaderAnswer.{ReaderAnswer}
 use Rattle.ferghulta.specs.declared.reader_calls.NextAnswer.{NextAnswer}
-use Rattle.ferghulta.specs.Answers.{blockAnswer}
 use Rattle.ferghulta.specs.StoredReader.{storedWith, storedPhase, storedReader, readingIn, readingOf, readerPhase, readerOf, readerAnswer, nextAnswer}
 use Rattle.ferghulta.proofs.Card.{outcomeIf, outcomeBy, rowBy, ReaderOpens, by-open-reader, NextReads, by-read-next, card, readerCard}
 use Rattle.ferghulta.proofs.Exported as exported

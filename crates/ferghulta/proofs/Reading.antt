@@ -1,6 +1,6 @@
 -- What a block's answer says of a picture reader whose turn was asked: with refusal 0 it is the one after the block, else the one that was given.
 -- Assumes nothing.
-use mathlib.Core.Path.{_≡_, refl, sym, ap, _∙_}
+use mathlib.Core.Path.{_≡_, sym, ap, _∙_}
 use borrow.Author.Tests.{eqb-false}
 use Rattle.exact.specs.Outcome.{Outcome}
 use Rattle.systems.proofs.Answerable.{Answerable, values, refusing, never-0}

@@ -12,7 +12,7 @@ use Rattle.matrix.specs.declared.Clips.{Clips}
 use Rattle.block.specs.declared.Header.{Header}
 use Rattle.block.specs.Read.{headerOf, sliceBy, sliceAfter}
 use Rattle.block.proofs.Answerable.{read-for}
-use Rattle.block.proofs.Told.{Row, told, Blocks, blocks-so}
+use Rattle.block.proofs.Told.{Row, told, blocks-so}
 use Rattle.meter.specs.declared.Meter.{Meter}
 use Rattle.meter.specs.declared.Figures.{Figures}
 use Rattle.meter.specs.Meter.{total, empty, whole, kept, entered, metering, shown, figures}

@@ -2,7 +2,7 @@
 -- Assumes nothing.
 use Prim.Native.Nat.{ℕ}
 use mathlib.Core.Path.{_≡_, refl, sym, ap, _∙_}
-use mathlib.Core.Bool.{Bool, true, false}
+use mathlib.Core.Bool.{Bool}
 use mathlib.Core.List.{List, [], _∷_, map}
 use native.Mathlib.Omega.{arith}
 use lib.Dec.{eqb}
@@ -33,10 +33,10 @@ use Rattle.reader.specs.declared.RowRead.{RowRead}
 use Rattle.reader.specs.declared.RowRead.the-variants as read
 use Rattle.reader.specs.Reader as defined
 use Rattle.reader.specs.Reader.{at, alike, inTurn, rowTo, takingFrom, taking, heardOf, sliceAfter, readerOutcome, takenOutcome}
-use Rattle.reader.specs.Book.{Call, opens, blocks, State, unopened, makes, next, heard, answersFrom}
+use Rattle.reader.specs.Book.{Call, opens, blocks, makes, next, heard, answersFrom}
 use Rattle.reader.proofs.Calls.{Card, Made, opening, block, Ran, ends, after-open, after-block}
 use Rattle.reader.proofs.Card.{nextReader, isComplete, Opens, by-open, Reads, by-read, Completes, by-phase, card}
-use Rattle.reader.proofs.Claims.{call, answer, Since, never, since, withCall, sinceFrom, Given, height, bytes-and-slice, given, Happens, Claimed}
+use Rattle.reader.proofs.Claims.{call, answer, Since, since, withCall, sinceFrom, Given, height, bytes-and-slice, Happens, Claimed}
 use Rattle.reader.proofs.Rows.{Under, Tracks, not-opened, reading, row-tracks, tracks-holds}
 use Rattle.reader.proofs.Steps.{stateOf, stated, open-step, read-step}
 

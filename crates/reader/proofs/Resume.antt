@@ -1,12 +1,12 @@
 -- Whatever phase a caller kept, calls can make the reader that it is resumed as; what calls can make is resumed as it was; and calls make
 -- no other.
 -- Assumes nothing.
-use Prim.Native.Nat.{ℕ, _+_, _≤_, _<_}
+use Prim.Native.Nat.{ℕ, _+_, _≤_}
 use mathlib.Core.Path.{_≡_, refl}
-use mathlib.Core.Bool.{Bool, true, false, _&&_}
+use mathlib.Core.Bool.{true}
 use mathlib.Core.List.{List}
 use native.Mathlib.Omega.{arith}
-use lib.Dec.{leb, ltb, eqb}
+use lib.Dec.{ltb, eqb}
 use borrow.Author.Tests.{le-leb, lt-ltb, ltb-true, eqb-false}
 use Rattle.exact.specs.Outcome.{Outcome, accepted, refused}
 use Rattle.exact.proofs.Boolean.{each-of-three}
@@ -17,7 +17,7 @@ use Rattle.block.proofs.Reading.{accepted-has-its-length}
 use Rattle.picture.specs.Picture.{heightOk}
 use Rattle.picture.proofs.Agreement.{split}
 use Rattle.picture.proofs.Card.{leads}
-use Rattle.reader.specs.declared.Format.the-variants.{Unknown, Of}
+use Rattle.reader.specs.declared.Format.the-variants.{Unknown}
 use Rattle.reader.specs.declared.Progress.{Progress}
 use Rattle.reader.specs.declared.Phase.{Phase}
 use Rattle.reader.specs.declared.Phase.the-variants.{Unopened, Reading, Complete}

@@ -2,8 +2,8 @@
 -- Assumes nothing.
 use Prim.Native.Nat.{ℕ, _+_, _*_, _≤_, _<_}
 use mathlib.Core.Path.{_≡_, refl, sym, ap, subst, _∙_}
-use mathlib.Core.Bool.{Bool, true, false}
-use mathlib.Core.List.{List, [], _∷_, map}
+use mathlib.Core.Bool.{true}
+use mathlib.Core.List.{List, map}
 use native.Mathlib.Omega.{arith}
 use lib.Dec.{eqb}
 use lib.ListN.{length, take, getD}
@@ -15,15 +15,15 @@ use Rattle.systems.proofs.Ranges.{in-range}
 use Rattle.block.specs.declared.Header.{Header}
 use Rattle.block.specs.Read as block-reading
 use Rattle.block.specs.Read.{headerOf}
-use Rattle.block.proofs.Told.{Row, told}
+use Rattle.block.proofs.Told.{told}
 use Rattle.picture.specs.Picture.{heightOk}
-use Rattle.picture.specs.Book.{Entry, Call}
+use Rattle.picture.specs.Book.{Entry}
 use Rattle.picture.proofs.Agreement.{split}
 use Rattle.picture.proofs.Calls as writer
 use Rattle.picture.proofs.Calls.{Label, Lent}
 use Rattle.picture.proofs.Card as picture
 use Rattle.picture.proofs.Card.{leads, labelOf}
-use Rattle.picture.proofs.Claims.{ReadCode, ReadsBack, Blocks, none, one, acceptedRows}
+use Rattle.picture.proofs.Claims.{ReadCode, ReadsBack, Blocks, none, one}
 use Rattle.picture.proofs.Demand as demand
 use Rattle.picture.proofs.Faithful as writing
 use Rattle.picture.proofs.Histories.{Answering, answering}
@@ -31,10 +31,9 @@ use Rattle.reader.specs.declared.Format.{Format}
 use Rattle.reader.specs.declared.Format.the-variants.{Unknown, Of}
 use Rattle.reader.specs.declared.Progress.{Progress}
 use Rattle.reader.specs.declared.Phase.{Phase}
-use Rattle.reader.specs.declared.Phase.the-variants.{Unopened, Reading, Complete}
+use Rattle.reader.specs.declared.Phase.the-variants.{Reading, Complete}
 use Rattle.reader.specs.declared.Reader.{Reader}
-use Rattle.reader.specs.declared.Taken.{Taken}
-use Rattle.reader.specs.Reader.{at, alike, after, inTurn, takingFrom, taking, heardOf, sliceAfter}
+use Rattle.reader.specs.Reader.{at, alike, after, inTurn, takingFrom, heardOf, sliceAfter}
 use Rattle.reader.specs.Reader as defined
 use Rattle.reader.specs.Book.{heard}
 use Rattle.reader.proofs.Calls.{Card, Made, Ran, ends, after-block}

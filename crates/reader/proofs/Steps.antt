@@ -2,7 +2,7 @@
 -- Assumes nothing.
 use Prim.Native.Nat.{ℕ, _+_}
 use mathlib.Core.Path.{_≡_, refl, ap}
-use mathlib.Core.Bool.{Bool, true, false, _&&_, cond}
+use mathlib.Core.Bool.{true}
 use mathlib.Core.List.{List}
 use lib.Dec.{eqb}
 use borrow.Author.Tests.{eqb-true}
@@ -20,7 +20,7 @@ use Rattle.reader.specs.declared.Progress.{Progress}
 use Rattle.reader.specs.declared.Phase.{Phase}
 use Rattle.reader.specs.declared.Phase.the-variants.{Unopened, Reading, Complete}
 use Rattle.reader.specs.declared.Reader.{Reader}
-use Rattle.reader.specs.Reader.{at, opening, alike, after, inTurn, rowTo, takingFrom, taking}
+use Rattle.reader.specs.Reader.{opening, alike, after, inTurn, rowTo, takingFrom, taking}
 use Rattle.reader.specs.Book.{opens, blocks, First, none, first, State, unopened, opened, complete, like, more, makes}
 use Rattle.reader.proofs.Card.{nextReader}
 

@@ -20,7 +20,7 @@ ghost use Rattle.exact.specs.Outcome.{accepted, refused};
 ghost use Rattle.systems.specs.Refusals.{refusal};
 ghost use Rattle.block.specs.Read.{walk, headerOf};
 ghost use Rattle.reader.specs.declared.Phase.the-variants.{Unopened};
-ghost use Rattle.reader.specs.Reader.{at, alike, after, inTurn, opening, taking, heardOf, sliceAfter, known, proper, resumed, readerOutcome, takenOutcome};
+ghost use Rattle.reader.specs.Reader.{at, alike, after, inTurn, opening, taking, sliceAfter, known, proper, resumed, readerOutcome, takenOutcome};
 ghost use Rattle.reader.specs.Inner.{beforeTurn, turnFrom, turnOf};
 
 // The system and width of the picture's rows, from the first accepted one on.

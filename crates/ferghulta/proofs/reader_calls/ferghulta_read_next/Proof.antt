@@ -1,7 +1,6 @@
 use mathlib.Core.Path.{_≡_, sym, ap, _∙_}
 use lib.ListN.{length}
 use denote.Ref.{now}
-use Rattle.exact.specs.Outcome.{accepted}
 use Rattle.block.proofs.Answerable.{reading-answerable}
 use Rattle.reader.specs.declared.Reader.{Reader}
 use Rattle.reader.specs.Reader.{readerOutcome}

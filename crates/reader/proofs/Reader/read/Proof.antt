@@ -1,33 +1,37 @@
 use mathlib.Core.Path.{_≡_, sym, ap, _∙_}
 use lib.ListN.{length}
 use denote.Ref.{now}
-use Rattle.exact.specs.Outcome.{Outcome, accepted}
+use Rattle.exact.specs.Outcome.{Outcome}
 use Rattle.block.specs.declared.Header.{Header}
-use Rattle.block.specs.Read.{headerOutcome}
+use Rattle.block.specs.Read as block
+use Rattle.block.specs.Read.{headerOf, headerOutcome}
 use borrow.Author.Needs.{needs}
-use Rattle.reader.specs.Reader.{readerOutcome}
-use Rattle.reader.specs.Inner.{turnOf}
+use Rattle.reader.specs.Reader.{taking, sliceAfter, readerOutcome}
 use Rattle.reader.proofs.Turns.{with-reader, next-row, no-turn}
 use Rattle.reader.proofs.Reader.read.Statement.{statement}
 use Rattle.reader.proofs.Reader.read.Tie as tie
 
+-- of the next row
+turned : (c : tie.After-reader) → let a = c .before .before .before .before .before .args in
+    (taking (a .self) (now (a .bytes)) (length (now (a .codes))) ≡ with-reader (headerOf (now (a .bytes)) (length (now (a .codes)))) (c .reader .given .0 .0))
+    × (block.sliceAfter (now (a .bytes)) (now (a .codes)) ≡ sliceAfter (a .self) (now (a .bytes)) (now (a .codes)))
+turned c =
+    let a = c .before .before .before .before .before .args in
+    next-row (a .self) (now (a .bytes)) (now (a .codes)) (sym (c .before .before .turn .ensures) ∙ ap readerOutcome (c .reader .given .1))
+
 returns : tie.Need-returns
 returns c =
     let read = c .before .before .before .before .before in
-    let turned = read .before .before .before in
-    let start = turned .before .before .before .before .before in
-    let next = next-row (start .args .self) (now (start .args .bytes)) (now (start .args .codes)) (sym (turned .before .before .turn .ensures) ∙ ap readerOutcome (turned .reader .given .1)) in
+    let to = read .before .before .before in
     let told = sym (read .read-block .ensures .0) ∙ ap headerOutcome (c .before .header .given .1) in
-    (sym (next .0 ∙ ap (λ (o : Outcome Header). with-reader o (turned .reader .given .0 .0)) told), read .read-block .ensures .1 ∙ next .1)
+    (sym (turned to .0 ∙ ap (λ (o : Outcome Header). with-reader o (to .reader .given .0 .0)) told), read .read-block .ensures .1 ∙ turned to .1)
 
 returns-2 : tie.Need-returns-2
 returns-2 c =
     let read = c .before .before .before .before .before in
-    let turned = read .before .before .before in
-    let start = turned .before .before .before .before .before in
-    let next = next-row (start .args .self) (now (start .args .bytes)) (now (start .args .codes)) (sym (turned .before .before .turn .ensures) ∙ ap readerOutcome (turned .reader .given .1)) in
+    let to = read .before .before .before in
     let told = sym (read .read-block .ensures .0) ∙ ap headerOutcome (c .before .r .given .1) in
-    (sym (next .0 ∙ ap (λ (o : Outcome Header). with-reader o (turned .reader .given .0 .0)) told), read .read-block .ensures .1 ∙ next .1)
+    (sym (turned to .0 ∙ ap (λ (o : Outcome Header). with-reader o (to .reader .given .0 .0)) told), read .read-block .ensures .1 ∙ turned to .1)
 
 returns-3 : tie.Need-returns-3
 returns-3 c =

@@ -1,7 +1,7 @@
 -- The words of a block in a range: counted outside it section by section, and required of each sample.
 -- Assumes nothing.
 use mathlib.Core.Path.{◌≡◌, refl, sym, ap, ◌∙◌}
-use mathlib.Core.Bool.{Bool, true, false, ◌&&◌, ◌||◌, and_true, and-false, false≢true}
+use mathlib.Core.Bool.{Bool, true, false, ◌&&◌, ◌||◌, and-true, and-false, false≢true}
 use mathlib.Core.Logic.{◌⊎◌, inl, inr, ⊎_elim}
 use mathlib.Core.List.{List}
 use Prim.Native.Nat.{ℕ, zero, suc, ◌+◌, ◌*◌, ◌≤◌, ◌<◌}
@@ -34,7 +34,7 @@ each false b e = absurd (false≢true e)
 none_more : (n m : ℕ) (t : Bool) → (t ≡ true → m ≡ 0) → (t ≡ false → 0 < m) → eqb (n + m) 0 ≡ (eqb n 0 && t)
 none_more n m true z p =
     let e : n + m ≡ n = omega (arith, z refl) in
-    ap (λ (k : ℕ). eqb k 0) e ∙ sym (and_true (eqb n 0))
+    ap (λ (k : ℕ). eqb k 0) e ∙ sym (and-true (eqb n 0))
 none_more n m false z p = ne_eqb (n + m) 0 (λ e. omega (arith, p refl)) ∙ sym (and-false (eqb n 0))
 
 pub misses_small : (r : Range) (w : ℕ) → misses r w ≤ 1

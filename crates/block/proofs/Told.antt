@@ -6,6 +6,7 @@ use mathlib.Core.List.{List}
 use lib.ListN.{length}
 use contract.Lifetimes.{Lfts}
 use denote.Ref.{Bor}
+use denote.MutBor.{MutBor}
 use Rattle.exact.specs.Outcome.{Outcome, accepted, refused}
 use Rattle.systems.specs.Systems.{number}
 use Rattle.block.specs.declared.Header.{Header}
@@ -27,7 +28,7 @@ told (refused n) = refused n
 
 -- a block's bytes and a lent slice; what is told, and the slice as it is left. κs are the lifetimes of the two references, whatever they are
 pub data Blocks : List ℕ → List ℕ → Outcome Row → List ℕ → Type 0 where
-  by_read_block : (κs : Lfts 2) (bytes slice bytes' slice' : Bor (List ℕ)) (r : BlockRead) → read-call.Post κs (bytes, (slice, tt)) r (bytes', (slice', tt))
+  by_read_block : (κs : Lfts 2) (bytes : Bor (List ℕ)) (slice : MutBor (List ℕ)) (bytes' : Bor (List ℕ)) (slice' : MutBor (List ℕ)) (r : BlockRead) → read-call.Post κs (bytes, (slice, tt)) r (bytes', (slice', tt))
       → Blocks bytes.now slice.now (told (header_outcome r)) slice'.now
 
 pub blocks_so : {bytes slice left : List ℕ} {o : Outcome Row} → Blocks bytes slice o left → (o ≡ told (header_of bytes (length slice))) × (left ≡ slice_after bytes slice)

@@ -1,4 +1,6 @@
 // The row block, and reading it (document 01, 'Row block', and requests 2026-03 and 2026-07).
+#![tactic(auto)]
+
 mod layout;
 
 ghost use Rattle.std.specs.Prelude.{◌≡◌, ◌++◌, ◌+◌, ◌*◌, ◌^◌, ◌<◌, ◌≤◌, leb, nat_abs, length, take, drop, set};
@@ -16,21 +18,21 @@ use matrix::{Clips, Unclipped, Words, unclipped_by};
 use systems::{MOST_ROWS, MOST_SAMPLES, Matrix, Named, Range, Refusal, System};
 
 // What a block that can be read says of its row.
-#[derive(Drop)]
+#[derive(Clone, Copy)]
 pub struct Judged {
     pub system: System,
     pub row: u16,
     pub samples: u16,
 }
 
-#[derive(Drop)]
+#[derive(Clone, Copy)]
 pub enum Judgement {
     Block(Judged),
     Refused(Refusal),
 }
 
 // The same of a block that was read, and the clips of its codes.
-#[derive(Drop)]
+#[derive(Clone, Copy)]
 pub struct Header {
     pub system: System,
     pub row: u16,
@@ -38,14 +40,14 @@ pub struct Header {
     pub clips: Clips,
 }
 
-#[derive(Drop)]
+#[derive(Clone, Copy)]
 pub enum BlockRead {
     Row(Header),
     Refused(Refusal),
 }
 
 // The count of a section.
-#[derive(Drop)]
+#[derive(Clone, Copy)]
 enum Counted {
     Count(u16),
     Refused(Refusal),

@@ -1,5 +1,7 @@
 // The bench values of document 01, with those of request 2026-03 in their places, the two lamps of request 2026-04 and the words of
 // request 2026-07, run through the public calls, a line each. proofs/Bench.antt has the starred ones as a theorem.
+#![tactic(auto)]
+
 use libc::STDOUT_FILENO;
 use light::{CodeSpan, LightCode};
 use matrix::{Decoded, Encoded, Encoding, Words};

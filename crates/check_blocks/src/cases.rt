@@ -8,7 +8,7 @@ use block::{BlockRead, Header};
 use check_records::{Tally, u16_at, wide};
 
 // What stands before a case's block.
-#[derive(Drop)]
+#[derive(Clone, Copy)]
 struct Case {
     places: u16,
     refusal: u32,

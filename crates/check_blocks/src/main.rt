@@ -1,5 +1,7 @@
 // Compares reading of blocks with the data of an unrelated program, reference/make_blocks.py, and writes for each answer that is
 // due how many cases it compared and how many differ.
+#![tactic(auto)]
+
 mod cases;
 mod slice;
 

@@ -9,7 +9,7 @@ use constant_luminance::Decoded;
 use matrix::Words;
 
 // One record: words, and R', B' and the clips low and high that they have in a system, or the number of the refusal.
-#[derive(Drop)]
+#[derive(Clone, Copy)]
 struct Case {
     system: u32,
     refusal: u32,

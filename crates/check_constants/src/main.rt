@@ -1,5 +1,7 @@
 // Compares constant luminance with the data of an unrelated program, reference/make_constants.py, and writes for each file how many
 // answers it compared and how many differ.
+#![tactic(auto)]
+
 mod codes;
 mod fields;
 mod words;

@@ -9,7 +9,7 @@ use constant_luminance::{Encoded, Lights};
 use matrix::Words;
 
 // One record: lights, and the words that they have in a system, or the number of the refusal.
-#[derive(Drop)]
+#[derive(Clone, Copy)]
 struct Case {
     system: u32,
     refusal: u32,

@@ -8,7 +8,7 @@ use check_records::{Tally, begin_alike, u16_at, u32_at, wide};
 use depth::Changed;
 
 // What stands before a case's block.
-#[derive(Drop)]
+#[derive(Clone, Copy)]
 struct Case {
     target: u32,
     room: u16,

@@ -1,5 +1,7 @@
 // Compares blocks at the other depth with the data of an unrelated program, reference/make_depths.py, and writes for each answer
 // that is due how many cases it compared and how many differ.
+#![tactic(auto)]
+
 mod buffer;
 mod cases;
 

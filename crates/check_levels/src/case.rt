@@ -8,14 +8,14 @@ use check_records::{Tally, u16_at, u32_at, wide};
 use levels::CodeLevel;
 
 // The call that a file has the answers of.
-#[derive(Drop)]
+#[derive(Clone, Copy)]
 pub enum Call {
     OfCode,
     OfDifference,
 }
 
 // One record: a code, and the level that it has in a system, or the number of the refusal.
-#[derive(Drop)]
+#[derive(Clone, Copy)]
 struct Case {
     system: u32,
     code: u16,

@@ -1,5 +1,7 @@
 // Compares levels with the data of an unrelated program, reference/make_levels.py, and writes for each file how many answers it
 // compared and how many differ.
+#![tactic(auto)]
+
 mod case;
 
 use case::Call;

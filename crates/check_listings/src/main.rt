@@ -1,4 +1,6 @@
 // Lists each input of data/, which reference/make_listings.py makes, as rowlist does, each under its file's name.
+#![tactic(auto)]
+
 use libc::STDOUT_FILENO;
 
 fn main() {

@@ -8,7 +8,7 @@ use check_records::Tally;
 use meter::Meter;
 
 // The meter that the reads so far left, and their tally.
-#[derive(Drop)]
+#[derive(Clone, Copy)]
 struct Play {
     meter: Meter,
     tally: Tally,

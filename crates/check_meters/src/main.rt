@@ -1,5 +1,7 @@
 // Makes lists of reads with a meter and compares the answers, the lent slice and the figures with the data of an unrelated program,
 // reference/make_meters.py. Writes for each answer that is due how many reads it compared and how many differ.
+#![tactic(auto)]
+
 mod list;
 mod read;
 mod slice;

@@ -9,7 +9,7 @@ use check_records::{u16_at, u32_at, wide};
 use meter::{Figures, Meter};
 
 // One record. The block's bytes are a part of the file 'blocks', and the figures are those after the read.
-#[derive(Drop)]
+#[derive(Clone, Copy)]
 pub struct Read {
     begins: u16,
     places: u16,
@@ -25,7 +25,7 @@ pub struct Read {
 }
 
 // Whether a read gave what it has to give, and the meter after it.
-#[derive(Drop)]
+#[derive(Clone, Copy)]
 pub struct Made {
     pub met: bool,
     pub meter: Meter,

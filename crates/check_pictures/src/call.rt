@@ -20,7 +20,7 @@ pub const CLOSE: u16 = 3;
 
 // What stands before a call's block. An open is given the system, width and height, a row the place of its first light, how many
 // lights, and the length of its buffer.
-#[derive(Drop)]
+#[derive(Clone, Copy)]
 pub struct Call {
     kind: u16,
     refusal: u32,

@@ -9,7 +9,7 @@ use check_records::{Tally, begin_alike};
 use picture::{Change, Phase, Picture};
 
 // The picture that the calls so far left, and their tally.
-#[derive(Drop)]
+#[derive(Clone, Copy)]
 struct Play {
     picture: Picture,
     tally: Tally,

@@ -1,5 +1,7 @@
 // Plays lists of calls against a picture and compares its answers, the lent buffer and the blocks with the row book of an unrelated
 // program, reference/make_pictures.py. Writes for each call and answer that is due how many it compared and how many differ.
+#![tactic(auto)]
+
 mod call;
 mod lights;
 mod list;

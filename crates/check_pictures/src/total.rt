@@ -7,7 +7,7 @@ use check_records::{Tally, u16_at, u32_at, wide};
 use picture::Total;
 
 // One record: a width and a height, and the bytes of such a picture, or the number of the refusal.
-#[derive(Drop)]
+#[derive(Clone, Copy)]
 struct Case {
     refusal: u32,
     width: u32,

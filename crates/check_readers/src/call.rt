@@ -11,7 +11,7 @@ use reader::{Change, Phase, Reader, RowRead};
 const OPENING: u16 = 0;
 
 // One record. A block's bytes are a part of the file 'blocks'; phase and next are those of the reader after the call.
-#[derive(Drop)]
+#[derive(Clone, Copy)]
 pub struct Call {
     begins: u16,
     kind: u16,
@@ -30,7 +30,7 @@ pub struct Call {
 }
 
 // Whether a call gave what it has to give, and the reader after it.
-#[derive(Drop)]
+#[derive(Clone, Copy)]
 pub struct Made {
     pub met: bool,
     pub reader: Reader,

@@ -8,7 +8,7 @@ use check_records::Tally;
 use reader::Reader;
 
 // The reader that the calls so far left, and their tally.
-#[derive(Drop)]
+#[derive(Clone, Copy)]
 struct Play {
     reader: Reader,
     tally: Tally,

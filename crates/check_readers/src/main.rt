@@ -1,5 +1,7 @@
 // Makes lists of calls on a picture reader and compares the answers, the lent slice and the reader after each with the data of an
 // unrelated program, reference/make_readers.py. Writes for each answer that is due how many calls it compared and how many differ.
+#![tactic(auto)]
+
 mod call;
 mod list;
 mod slice;

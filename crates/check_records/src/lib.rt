@@ -1,5 +1,7 @@
 // What the programs that compare the conversion with data have in common: the files of data, counts of comparisons, and nominal
 // ranges of their own.
+#![tactic(auto)]
+
 mod alike;
 mod file;
 mod range;

@@ -8,7 +8,7 @@ use check_records::{Tally, u32_at};
 use segmented::Order;
 
 // One record: the lengths of two buffers, and the refusal that is due, or 0.
-#[derive(Drop)]
+#[derive(Clone, Copy)]
 struct Case {
     from: u32,
     to: u32,

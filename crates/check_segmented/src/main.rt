@@ -1,5 +1,7 @@
 // Compares moving rows between progressive and segmented-frame order with the data of an unrelated program,
 // reference/make_segments.py, and writes for each file how many answers it compared and how many differ.
+#![tactic(auto)]
+
 mod lengths;
 mod moving;
 mod rows;

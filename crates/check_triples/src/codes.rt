@@ -9,7 +9,7 @@ use matrix::{Decoded, Words};
 use systems::Codes;
 
 // One record: words, and the codes and the clips low and high that they have in a system, or the number of the refusal.
-#[derive(Drop)]
+#[derive(Clone, Copy)]
 struct Case {
     system: u32,
     refusal: u32,

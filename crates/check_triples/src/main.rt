@@ -1,5 +1,7 @@
 // Compares words of codes and codes of words with the data of an unrelated program, reference/make_triples.py, and writes for each
 // file how many answers it compared and how many differ.
+#![tactic(auto)]
+
 mod codes;
 mod fields;
 mod grid;

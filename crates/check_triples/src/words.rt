@@ -9,7 +9,7 @@ use matrix::{Encoded, Encoding, Words};
 use systems::Codes;
 
 // One record: codes, and the words and the moved count that they have in a system, or the number of the refusal.
-#[derive(Drop)]
+#[derive(Clone, Copy)]
 struct Case {
     system: u32,
     refusal: u32,

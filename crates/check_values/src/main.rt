@@ -1,5 +1,7 @@
 // Compares the conversion with the data of an unrelated program, reference/make_values.py, and writes for each check how many
 // answers it compared and how many differ.
+#![tactic(auto)]
+
 mod float;
 mod lights;
 mod place;

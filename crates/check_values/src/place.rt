@@ -6,7 +6,7 @@ ghost use Rattle.check_values.specs.Vectors.{next_place};
 use check_records::{black, white};
 
 // A nominal code of a system.
-#[derive(Drop)]
+#[derive(Clone, Copy)]
 pub struct Place {
     pub system: u32,
     pub code: u16,

@@ -9,7 +9,7 @@ use signals::{Quantised, Signals};
 use systems::Codes;
 
 // One record: a signal, and the code that it has in a system, or 0 where it is refused.
-#[derive(Drop)]
+#[derive(Clone, Copy)]
 struct Case {
     system: u32,
     code: u16,

@@ -16,7 +16,7 @@ const ZERO: u32 = 0;
 const ONE: u32 = 0x3f80_0000;
 
 // The bits that three signals have to have.
-#[derive(Drop)]
+#[derive(Clone, Copy)]
 struct Bits {
     r: u32,
     g: u32,

@@ -12,7 +12,7 @@ use check_records::Tally;
 use matrix::{Decoded, Encoded, Encoding, Words};
 use systems::Codes;
 
-#[derive(Drop)]
+#[derive(Clone, Copy)]
 pub struct Comparison {
     pub words: Nearness,
     pub codes: Nearness,

@@ -1,5 +1,7 @@
 // Compares the conversion with rows that zimg made, which reference/zimg_rows.c describes. For each system it writes how many of
 // zimg's words and codes differ from ours, how many by more than one, and in how many samples a component of ours was clipped.
+#![tactic(auto)]
+
 mod comparison;
 mod nearness;
 mod sample;

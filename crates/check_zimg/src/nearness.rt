@@ -4,7 +4,7 @@ ghost use Rattle.check_zimg.specs.Samples.{apart, nearer, off};
 
 use check_records::Tally;
 
-#[derive(Drop)]
+#[derive(Clone, Copy)]
 pub struct Nearness {
     pub same: Tally,
     pub near: Tally,

@@ -10,7 +10,7 @@ use systems::Codes;
 // Levels a side.
 const LEVELS: usize = 20;
 
-#[derive(Drop)]
+#[derive(Clone, Copy)]
 pub struct Sample {
     pub given: Codes,
     pub words: Words,

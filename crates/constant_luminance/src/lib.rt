@@ -1,4 +1,6 @@
 // Constant luminance (request 2026-11): Y'c, C'bc and C'rc of a triple of light, and R' and B' of such words, in the systems 5 and 6.
+#![tactic(auto)]
+
 ghost use Rattle.std.specs.Prelude.{◌≡◌, ◌*◌, ◌^◌, ◌≤◌, ◌<◌, pos, nat_abs, ◌+ℤ◌, ◌*ℤ◌};
 ghost use Rattle.exact.specs.Signed.{rounded};
 ghost use Rattle.curve.specs.Curve.{code};
@@ -11,14 +13,14 @@ use matrix::{Clips, Words};
 use systems::{Matrix, Range, Refusal, System};
 
 // BT.2020 with constant luminance at a bit depth.
-#[derive(Drop)]
+#[derive(Clone, Copy)]
 pub enum ConstantSystem {
     Bits10,
     Bits12,
 }
 
 // The system of constant luminance that a number names.
-#[derive(Drop)]
+#[derive(Clone, Copy)]
 pub enum Named {
     Known(ConstantSystem),
     Unknown,
@@ -26,7 +28,7 @@ pub enum Named {
 
 // Linear light of a sample, 0 to 65535 each.
 #[repr(C)]
-#[derive(Drop)]
+#[derive(Clone, Copy)]
 pub struct Lights {
     pub r: u16,
     pub g: u16,
@@ -35,33 +37,33 @@ pub struct Lights {
 
 // R' and B' codes of a sample.
 #[repr(C)]
-#[derive(Drop)]
+#[derive(Clone, Copy)]
 pub struct RedBlue {
     pub r: u16,
     pub b: u16,
 }
 
 // R' and B' of a sample's words, and their clips.
-#[derive(Drop)]
+#[derive(Clone, Copy)]
 pub struct Clipped {
     pub codes: RedBlue,
     pub clips: Clips,
 }
 
-#[derive(Drop)]
+#[derive(Clone, Copy)]
 pub enum Encoded {
     Words(Words),
     Refused(Refusal),
 }
 
-#[derive(Drop)]
+#[derive(Clone, Copy)]
 pub enum Decoded {
     Codes(Clipped),
     Refused(Refusal),
 }
 
 // What a colour difference is divided by, in ten-thousandths, where it is not above zero and where it is.
-#[derive(Drop)]
+#[derive(Clone, Copy)]
 struct Divisors {
     low: u32,
     high: u32,

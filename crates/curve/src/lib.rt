@@ -1,4 +1,6 @@
 // Light to code by a table of boundary lights (document 01, 'Light to code'): one lookup for all depths and all callers.
+#![tactic(auto)]
+
 ghost use Rattle.std.specs.Prelude.{◌≡◌, ◌≤◌, leb};
 ghost use mir.Val.{bool_byte};
 ghost use Rattle.curve.specs.Curve.{code};

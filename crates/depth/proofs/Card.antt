@@ -4,6 +4,7 @@ use Prim.Native.Nat.{ℕ}
 use mathlib.Core.List.{List}
 use contract.Lifetimes.{Lfts}
 use denote.Ref.{Bor}
+use denote.MutBor.{MutBor}
 use Rattle.exact.specs.Outcome.{Outcome, accepted, refused}
 use Rattle.systems.specs.Systems.{number}
 use Rattle.block.specs.declared.Header.{Header}
@@ -22,11 +23,11 @@ label_of (refused n) = refused n
 
 -- κs are the lifetimes of the two references, whatever they are
 pub data Changes (t : ℕ) : List ℕ → List ℕ → Outcome (Unit {0}) → List ℕ → Type 0 where
-  by_change_depth : (κs : Lfts 2) (bytes out bytes' out' : Bor (List ℕ)) (t' : ℕ) (r : Changed) → change-call.Post κs (t, (bytes, (out, tt))) r (t', (bytes', (out', tt)))
+  by_change_depth : (κs : Lfts 2) (bytes : Bor (List ℕ)) (out : MutBor (List ℕ)) (bytes' : Bor (List ℕ)) (out' : MutBor (List ℕ)) (t' : ℕ) (r : Changed) → change-call.Post κs (t, (bytes, (out, tt))) r (t', (bytes', (out', tt)))
       → Changes t bytes.now out.now (changed_outcome r) out'.now
 
 pub data Reads : List ℕ → List ℕ → Outcome Label → Type 0 where
-  by_read_block : (κs : Lfts 2) (bytes slice bytes' slice' : Bor (List ℕ)) (r : BlockRead) → read-call.Post κs (bytes, (slice, tt)) r (bytes', (slice', tt))
+  by_read_block : (κs : Lfts 2) (bytes : Bor (List ℕ)) (slice : MutBor (List ℕ)) (bytes' : Bor (List ℕ)) (slice' : MutBor (List ℕ)) (r : BlockRead) → read-call.Post κs (bytes, (slice, tt)) r (bytes', (slice', tt))
       → Reads bytes.now slice.now (label_of (header_outcome r))
 
 abbrev pub card : Card

@@ -7,7 +7,7 @@ use lib.Dec.{leb}
 use lib.ListN.{length}
 use Rattle.exact.specs.Outcome.{Outcome, accepted, refused}
 use Rattle.exact.specs.Whole.{INT}
-use Rattle.exact.proofs.Lending.{lend, lifetimes}
+use Rattle.exact.proofs.Lending.{lend, lend_mut, lifetimes}
 use Rattle.systems.specs.declared.System.{System}
 use Rattle.systems.specs.declared.refusal.Refusal.TheVariants as refusal
 use Rattle.systems.proofs.Answerable.{Answerable, values, refusing, tested, followed, named_answerable}
@@ -58,10 +58,10 @@ faithful = record {
   reads = reads_so;
   happens = λ t bs out.
       let r = answer_for (changing_answerable t bs (length out)) in
-      (_, _, by_change_depth lifetimes (lend bs) (lend out) (lend bs) (lend (buffer_after t bs out)) t r.0 (r.1, refl));
+      (_, _, by_change_depth lifetimes (lend bs) (lend_mut out) (lend bs) (lend_mut (buffer_after t bs out)) t r.0 (r.1, refl));
   reading = λ bs slice.
       let r = read_for bs (length slice) in
-      (_, by_read_block lifetimes (lend bs) (lend slice) (lend bs) (lend (slice_after bs slice)) r.read (r.outcome, refl));
+      (_, by_read_block lifetimes (lend bs) (lend_mut slice) (lend bs) (lend_mut (slice_after bs slice)) r.read (r.outcome, refl));
 }
 
 -- each `Post` of the card is that of a contract which the routine meets

@@ -1,4 +1,6 @@
 // A block at the other depth of its Recommendation (request 2026-09): 8 and 10 bits of BT.709, 10 and 12 bits of BT.2020.
+#![tactic(auto)]
+
 ghost use Rattle.std.specs.Prelude.{◌≡◌, ◌+◌, ◌*◌, ◌<◌, ◌≤◌, length};
 ghost use Rattle.systems.specs.Refusals.{refusal};
 ghost use Rattle.exact.specs.Outcome.{refused, require};
@@ -15,14 +17,14 @@ use block::{
 use systems::{Matrix, Named, Range, Refusal, System};
 
 // What came of changing a block.
-#[derive(Drop)]
+#[derive(Clone, Copy)]
 pub enum Changed {
     Done,
     Refused(Refusal),
 }
 
 // To the greater depth, or to the lesser.
-#[derive(Drop)]
+#[derive(Clone, Copy)]
 enum Way {
     Up,
     Down,

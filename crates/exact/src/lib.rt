@@ -1,5 +1,7 @@
 // Exact whole-number arithmetic: the rounding of document 01, 'Four systems', and the definitions and laws that every
 // stage above shares.
+#![tactic(auto)]
+
 ghost use Rattle.std.specs.Prelude.{◌≡◌, ◌+◌, ◌%◌, ◌^◌, ◌<◌, pos, nat_abs, ◌<ℤ◌};
 ghost use Rattle.std.specs.Int.Signed.{shr_z};
 ghost use Rattle.exact.specs.Whole.{INT};

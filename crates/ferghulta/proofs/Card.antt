@@ -8,6 +8,7 @@ use lib.Dec.{eqb}
 use lib.ListN.{replicate}
 use contract.Lifetimes.{Lfts}
 use denote.Ref.{Bor}
+use denote.MutBor.{MutBor}
 use Rattle.exact.specs.Outcome.{Outcome}
 use Rattle.exact.specs.Outcome as outcome
 use Rattle.block.proofs.Told.{Row}
@@ -81,14 +82,14 @@ pub data Opens (k : StoredPicture) (n w h : ℕ) : Answer → StoredPicture → 
 
 -- κs are the lifetimes of the two references, whatever they are
 pub data Rows (k : StoredPicture) : List ℕ → List ℕ → Answer → List ℕ → StoredPicture → Type 0 where
-  by_row : (κs : Lfts 2) (lights out lights' out' : Bor (List ℕ)) (a : PictureAnswer) (k' : StoredPicture) → row-call.Post κs (k, (lights, (out, tt))) a (k', (lights', (out', tt)))
+  by_row : (κs : Lfts 2) (lights : Bor (List ℕ)) (out : MutBor (List ℕ)) (lights' : Bor (List ℕ)) (out' : MutBor (List ℕ)) (a : PictureAnswer) (k' : StoredPicture) → row-call.Post κs (k, (lights, (out, tt))) a (k', (lights', (out', tt)))
       → Rows k lights.now out.now (answer_by a) out'.now a.picture
 
 pub data Closes (k : StoredPicture) : Answer → StoredPicture → Type 0 where
   by_close : (a : PictureAnswer) (k' : StoredPicture) → close-call.Post tt (k, tt) a (k', tt) → Closes k (answer_by a) a.picture
 
 pub data Reads : List ℕ → List ℕ → Outcome Label → List ℕ → Type 0 where
-  by_read_block : (κs : Lfts 2) (bytes slice bytes' slice' : Bor (List ℕ)) (a : BlockAnswer) → read-call.Post κs (bytes, (slice, tt)) a (bytes', (slice', tt))
+  by_read_block : (κs : Lfts 2) (bytes : Bor (List ℕ)) (slice : MutBor (List ℕ)) (bytes' : Bor (List ℕ)) (slice' : MutBor (List ℕ)) (a : BlockAnswer) → read-call.Post κs (bytes, (slice, tt)) a (bytes', (slice', tt))
       → Reads bytes.now slice.now (label_by a) slice'.now
 
 pub data Totals (w h : ℕ) : Outcome ℕ → Type 0 where
@@ -117,11 +118,11 @@ abbrev pub row_by : BlockAnswer → Outcome Row
 row_by a = row_if (eqb a.refusal 0) a
 
 pub data MeteredReads (m : Meter) : List ℕ → List ℕ → Outcome Row → List ℕ → Meter → Type 0 where
-  by_read_metered : (κs : Lfts 2) (bytes slice bytes' slice' : Bor (List ℕ)) (a : MeteredAnswer) (m' : Meter) → read-metered-call.Post κs (m, (bytes, (slice, tt))) a (m', (bytes', (slice', tt)))
+  by_read_metered : (κs : Lfts 2) (bytes : Bor (List ℕ)) (slice : MutBor (List ℕ)) (bytes' : Bor (List ℕ)) (slice' : MutBor (List ℕ)) (a : MeteredAnswer) (m' : Meter) → read-metered-call.Post κs (m, (bytes, (slice, tt))) a (m', (bytes', (slice', tt)))
       → MeteredReads m bytes.now slice.now (row_by a.block) slice'.now a.meter
 
 pub data BlockReads : List ℕ → List ℕ → Outcome Row → List ℕ → Type 0 where
-  by_read : (κs : Lfts 2) (bytes slice bytes' slice' : Bor (List ℕ)) (a : BlockAnswer) → read-call.Post κs (bytes, (slice, tt)) a (bytes', (slice', tt))
+  by_read : (κs : Lfts 2) (bytes : Bor (List ℕ)) (slice : MutBor (List ℕ)) (bytes' : Bor (List ℕ)) (slice' : MutBor (List ℕ)) (a : BlockAnswer) → read-call.Post κs (bytes, (slice, tt)) a (bytes', (slice', tt))
       → BlockReads bytes.now slice.now (row_by a) slice'.now
 
 pub data Shows (m : Meter) (f : Figures) : Type 0 where
@@ -145,8 +146,8 @@ abbrev pub outcome_by : ℕ → Outcome (Unit {0})
 outcome_by n = outcome_if (eqb n 0) n
 
 pub data Moves : Order → List ℕ → List ℕ → Outcome (Unit {0}) → List ℕ → Type 0 where
-  by_to_segmented : (κs : Lfts 2) (bs out bs' out' : Bor (List ℕ)) (n : ℕ) → to-segmented.Post κs (bs, (out, tt)) n (bs', (out', tt)) → Moves Segmented bs.now out.now (outcome_by n) out'.now
-  by_to_progressive : (κs : Lfts 2) (bs out bs' out' : Bor (List ℕ)) (n : ℕ) → to-progressive.Post κs (bs, (out, tt)) n (bs', (out', tt)) → Moves Progressive bs.now out.now (outcome_by n) out'.now
+  by_to_segmented : (κs : Lfts 2) (bs : Bor (List ℕ)) (out : MutBor (List ℕ)) (bs' : Bor (List ℕ)) (out' : MutBor (List ℕ)) (n : ℕ) → to-segmented.Post κs (bs, (out, tt)) n (bs', (out', tt)) → Moves Segmented bs.now out.now (outcome_by n) out'.now
+  by_to_progressive : (κs : Lfts 2) (bs : Bor (List ℕ)) (out : MutBor (List ℕ)) (bs' : Bor (List ℕ)) (out' : MutBor (List ℕ)) (n : ℕ) → to-progressive.Post κs (bs, (out, tt)) n (bs', (out', tt)) → Moves Progressive bs.now out.now (outcome_by n) out'.now
 
 abbrev pub depth_label_if : Bool → BlockAnswer → Outcome depth.Label
 depth_label_if true a = outcome.accepted (record { system = a.system; row = a.row; samples = a.samples })
@@ -156,11 +157,11 @@ abbrev pub depth_label_by : BlockAnswer → Outcome depth.Label
 depth_label_by a = depth_label_if (eqb a.refusal 0) a
 
 pub data Changes (t : ℕ) : List ℕ → List ℕ → Outcome (Unit {0}) → List ℕ → Type 0 where
-  by_change_depth : (κs : Lfts 2) (bytes out bytes' out' : Bor (List ℕ)) (t' n : ℕ) → change-depth-call.Post κs (t, (bytes, (out, tt))) n (t', (bytes', (out', tt)))
+  by_change_depth : (κs : Lfts 2) (bytes : Bor (List ℕ)) (out : MutBor (List ℕ)) (bytes' : Bor (List ℕ)) (out' : MutBor (List ℕ)) (t' n : ℕ) → change-depth-call.Post κs (t, (bytes, (out, tt))) n (t', (bytes', (out', tt)))
       → Changes t bytes.now out.now (outcome_by n) out'.now
 
 pub data LabelReads : List ℕ → List ℕ → Outcome depth.Label → Type 0 where
-  by_read_label : (κs : Lfts 2) (bytes slice bytes' slice' : Bor (List ℕ)) (a : BlockAnswer) → read-call.Post κs (bytes, (slice, tt)) a (bytes', (slice', tt))
+  by_read_label : (κs : Lfts 2) (bytes : Bor (List ℕ)) (slice : MutBor (List ℕ)) (bytes' : Bor (List ℕ)) (slice' : MutBor (List ℕ)) (a : BlockAnswer) → read-call.Post κs (bytes, (slice, tt)) a (bytes', (slice', tt))
       → LabelReads bytes.now slice.now (depth_label_by a)
 
 abbrev pub depth_card : depth.Card
@@ -172,7 +173,7 @@ pub data ReaderOpens (k : StoredReader) (h : ℕ) : Outcome (Unit {0}) → Store
   by_open_reader : (a : ReaderAnswer) (k' : StoredReader) (h' : ℕ) → open-reader-call.Post tt (k, (h, tt)) a (k', (h', tt)) → ReaderOpens k h (outcome_by a.refusal) a.reader
 
 pub data NextReads (k : StoredReader) : List ℕ → List ℕ → Outcome Row → List ℕ → StoredReader → Type 0 where
-  by_read_next : (κs : Lfts 2) (bytes slice bytes' slice' : Bor (List ℕ)) (a : NextAnswer) (k' : StoredReader) → read-next-call.Post κs (k, (bytes, (slice, tt))) a (k', (bytes', (slice', tt)))
+  by_read_next : (κs : Lfts 2) (bytes : Bor (List ℕ)) (slice : MutBor (List ℕ)) (bytes' : Bor (List ℕ)) (slice' : MutBor (List ℕ)) (a : NextAnswer) (k' : StoredReader) → read-next-call.Post κs (k, (bytes, (slice, tt))) a (k', (bytes', (slice', tt)))
       → NextReads k bytes.now slice.now (row_by a.block) slice'.now a.reader
 
 abbrev pub reader_card : reader.Card

@@ -7,7 +7,7 @@ use mathlib.Core.List.{List}
 use lib.ListN.{length}
 use Rattle.exact.specs.Outcome as outcome
 use Rattle.exact.specs.Outcome.{Outcome}
-use Rattle.exact.proofs.Lending.{lend, lifetimes}
+use Rattle.exact.proofs.Lending.{lend, lend_mut, lifetimes}
 use Rattle.systems.specs.Refusals.{refusal}
 use Rattle.systems.proofs.Answerable.{Answerable, values, refusing, never_0}
 use Rattle.block.specs.declared.Header.{Header}
@@ -41,7 +41,7 @@ changed = claimed (record {
   changes = changes_so;
   reads = reads_so;
   happens = λ t bs out.
-      (_, _, by_change_depth lifetimes (lend bs) (lend out) (lend bs) (lend (buffer_after t bs out)) t (refusal_answer (heard (changing t bs (length out)))) (refl, refl));
+      (_, _, by_change_depth lifetimes (lend bs) (lend_mut out) (lend bs) (lend_mut (buffer_after t bs out)) t (refusal_answer (heard (changing t bs (length out)))) (refl, refl));
   reading = λ bs slice.
-      (_, by_read_label lifetimes (lend bs) (lend slice) (lend bs) (lend (slice_after bs slice)) (block_answer (header_of bs (length slice))) (refl, refl));
+      (_, by_read_label lifetimes (lend bs) (lend_mut slice) (lend bs) (lend_mut (slice_after bs slice)) (block_answer (header_of bs (length slice))) (refl, refl));
 })

@@ -7,7 +7,7 @@ use mathlib.Core.List.{List}
 use lib.ListN.{length}
 use Rattle.exact.specs.Outcome as outcome
 use Rattle.exact.specs.Outcome.{Outcome}
-use Rattle.exact.proofs.Lending.{lend, lifetimes}
+use Rattle.exact.proofs.Lending.{lend, lend_mut, lifetimes}
 use Rattle.systems.specs.Refusals.{refusal}
 use Rattle.systems.proofs.Answerable.{Answerable, values, refusing, never_0}
 use Rattle.block.specs.declared.Header.{Header}
@@ -50,6 +50,6 @@ metered = claimed (record {
   shows = shows_so;
   begins = refl;
   reading = λ m bytes slice.
-      (_, _, _, by_read_metered lifetimes (lend bytes) (lend slice) (lend bytes) (lend (slice_after bytes slice)) (metered_answer m (header_of bytes (length slice))) m (refl, refl));
+      (_, _, _, by_read_metered lifetimes (lend bytes) (lend_mut slice) (lend bytes) (lend_mut (slice_after bytes slice)) (metered_answer m (header_of bytes (length slice))) m (refl, refl));
   showing = λ m. (_, by_figures m refl);
 })

@@ -9,7 +9,7 @@ use lib.Dec.{eqb}
 use lib.ListN.{length}
 use borrow.Author.Tests.{eqb-true}
 use Rattle.exact.specs.Outcome.{Outcome, accepted, refused}
-use Rattle.exact.proofs.Lending.{lend, lifetimes}
+use Rattle.exact.proofs.Lending.{lend, lend_mut, lifetimes}
 use Rattle.systems.specs.declared.System.{System}
 use Rattle.systems.specs.declared.System.TheVariants.{Bt709Bits8, Bt709Bits10, Bt2020Bits10, Bt2020Bits12}
 use Rattle.systems.specs.Systems.{number, named}
@@ -136,7 +136,7 @@ faithful = record {
   opening = λ k h. (_, _, by_open_reader (reader_answer k (opening (reader_of k) h)) k h refl);
   reading = λ k bytes slice.
       let a = next_answer k (taking (reader_of k) bytes (length slice)) in
-      (_, _, _, by_read_next lifetimes (lend bytes) (lend slice) (lend bytes) (lend (slice_after (reader_of k) bytes slice)) a k (refl, refl));
+      (_, _, _, by_read_next lifetimes (lend bytes) (lend_mut slice) (lend bytes) (lend_mut (slice_after (reader_of k) bytes slice)) a k (refl, refl));
   completing = λ k. (_, refl);
 }
 

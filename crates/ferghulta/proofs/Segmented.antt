@@ -6,7 +6,7 @@ use mathlib.Core.Bool.{Bool}
 use mathlib.Core.List.{List}
 use lib.ListN.{length}
 use Rattle.exact.specs.Outcome.{Outcome}
-use Rattle.exact.proofs.Lending.{lend, lifetimes}
+use Rattle.exact.proofs.Lending.{lend, lend_mut, lifetimes}
 use Rattle.systems.specs.Refusals.{refusal}
 use Rattle.systems.proofs.Answerable.{Answerable, values, refusing, never_0}
 use Rattle.segmented.specs.declared.Order.{Order}
@@ -26,8 +26,8 @@ follows (by_to_segmented _ bs out _ _ _ post) = (tells (move_answerable (length 
 follows (by_to_progressive _ bs out _ _ _ post) = (tells (move_answerable (length bs.now) (length out.now)) post.0, post.1)
 
 happens : (o : Order) (bs out : List ℕ) → (a : Outcome (Unit {0})) × (left : List ℕ) × Moves o bs out a left
-happens Segmented bs out = (_, _, by_to_segmented lifetimes (lend bs) (lend out) (lend bs) (lend (buffer_after Segmented bs out)) (refusal_answer (move_outcome (length bs) (length out))) (refl, refl))
-happens Progressive bs out = (_, _, by_to_progressive lifetimes (lend bs) (lend out) (lend bs) (lend (buffer_after Progressive bs out)) (refusal_answer (move_outcome (length bs) (length out))) (refl, refl))
+happens Segmented bs out = (_, _, by_to_segmented lifetimes (lend bs) (lend_mut out) (lend bs) (lend_mut (buffer_after Segmented bs out)) (refusal_answer (move_outcome (length bs) (length out))) (refl, refl))
+happens Progressive bs out = (_, _, by_to_progressive lifetimes (lend bs) (lend_mut out) (lend bs) (lend_mut (buffer_after Progressive bs out)) (refusal_answer (move_outcome (length bs) (length out))) (refl, refl))
 
 pub moving : Claimed Moves
 moving = claimed (record { follows = follows; happens = happens })

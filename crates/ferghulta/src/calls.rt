@@ -18,35 +18,35 @@ use signals::{Quantised, Restored, Signals};
 use systems::{Codes, Refusal};
 
 #[repr(C)]
-#[derive(Drop)]
+#[derive(Clone, Copy)]
 pub struct CodeAnswer {
     pub refusal: u32,
     pub code: u16,
 }
 
 #[repr(C)]
-#[derive(Drop)]
+#[derive(Clone, Copy)]
 pub struct SpanAnswer {
     pub refusal: u32,
     pub span: Span,
 }
 
 #[repr(C)]
-#[derive(Drop)]
+#[derive(Clone, Copy)]
 pub struct CodesAnswer {
     pub refusal: u32,
     pub codes: Codes,
 }
 
 #[repr(C)]
-#[derive(Drop)]
+#[derive(Clone, Copy)]
 pub struct SignalsAnswer {
     pub refusal: u32,
     pub signals: Signals,
 }
 
 #[repr(C)]
-#[derive(Drop)]
+#[derive(Clone, Copy)]
 pub struct WordsAnswer {
     pub refusal: u32,
     pub moved: u32,
@@ -54,7 +54,7 @@ pub struct WordsAnswer {
 }
 
 #[repr(C)]
-#[derive(Drop)]
+#[derive(Clone, Copy)]
 pub struct DecodedAnswer {
     pub refusal: u32,
     pub clips: Clips,
@@ -62,14 +62,14 @@ pub struct DecodedAnswer {
 }
 
 #[repr(C)]
-#[derive(Drop)]
+#[derive(Clone, Copy)]
 pub struct LevelAnswer {
     pub refusal: u32,
     pub level: Level,
 }
 
 #[repr(C)]
-#[derive(Drop)]
+#[derive(Clone, Copy)]
 pub struct BlockAnswer {
     pub refusal: u32,
     pub system: u32,

@@ -7,14 +7,14 @@ use constant_luminance::{Decoded, Encoded, Lights, RedBlue};
 use matrix::{Clips, Words};
 
 #[repr(C)]
-#[derive(Drop)]
+#[derive(Clone, Copy)]
 pub struct ConstantWordsAnswer {
     pub refusal: u32,
     pub words: Words,
 }
 
 #[repr(C)]
-#[derive(Drop)]
+#[derive(Clone, Copy)]
 pub struct ConstantCodesAnswer {
     pub refusal: u32,
     pub clips: Clips,

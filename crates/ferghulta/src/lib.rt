@@ -1,4 +1,6 @@
 // The interface for C and Rust: every call of the core with numbers, slices and plain structs, as include/ferghulta.h declares them.
+#![tactic(auto)]
+
 mod calls;
 mod constant_calls;
 mod depth_calls;

@@ -9,7 +9,7 @@ use crate::calls::{BlockAnswer, ferghulta_read_block};
 use meter::{Figures, Meter};
 
 #[repr(C)]
-#[derive(Drop)]
+#[derive(Clone, Copy)]
 pub struct MeteredAnswer {
     pub meter: Meter,
     pub block: BlockAnswer,

@@ -8,14 +8,14 @@ use crate::stored_picture::{StoredPicture, picture_of, stored};
 use picture::{Change, Picture, Total};
 
 #[repr(C)]
-#[derive(Drop)]
+#[derive(Clone, Copy)]
 pub struct PictureAnswer {
     pub refusal: u32,
     pub picture: StoredPicture,
 }
 
 #[repr(C)]
-#[derive(Drop)]
+#[derive(Clone, Copy)]
 pub struct TotalAnswer {
     pub refusal: u32,
     pub bytes: u32,

@@ -10,14 +10,14 @@ use crate::stored_reader::{StoredReader, reader_of, stored_reader};
 use reader::{Change, Reader};
 
 #[repr(C)]
-#[derive(Drop)]
+#[derive(Clone, Copy)]
 pub struct ReaderAnswer {
     pub refusal: u32,
     pub reader: StoredReader,
 }
 
 #[repr(C)]
-#[derive(Drop)]
+#[derive(Clone, Copy)]
 pub struct NextAnswer {
     pub reader: StoredReader,
     pub block: BlockAnswer,

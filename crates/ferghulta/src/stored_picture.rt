@@ -7,7 +7,7 @@ use systems::{Named, System};
 
 // phase: 0 fresh, 1 open, 2 closed. The rest is 0 unless it is open, but for the bytes of a closed picture.
 #[repr(C)]
-#[derive(Drop)]
+#[derive(Clone, Copy)]
 pub struct StoredPicture {
     pub phase: u8,
     pub system: u8,

@@ -7,7 +7,7 @@ use systems::{Named, System};
 
 // phase: 0 not opened, 1 reading, 2 complete. The rest is 0 unless it is reading, and system and width are 0 before the first row.
 #[repr(C)]
-#[derive(Drop)]
+#[derive(Clone, Copy)]
 pub struct StoredReader {
     pub phase: u8,
     pub system: u8,

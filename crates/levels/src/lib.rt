@@ -1,4 +1,6 @@
 // Codes as levels in millivolts, as a waveform bench reads them (request 2026-05).
+#![tactic(auto)]
+
 ghost use Rattle.std.specs.Prelude.{◌≡◌, ◌^◌, ◌<◌, pos, nat_abs, ◌<ℤ◌};
 ghost use Rattle.systems.specs.Systems.{scale};
 ghost use Rattle.levels.specs.Levels.{level_ratio, divided, level_by, level_of_code, level_of_difference, level_outcome};
@@ -8,20 +10,20 @@ use systems::{Named, Range, Refusal, System};
 
 // Whole millivolts, rounded down, and the remainder over 219s or 224s.
 #[repr(C)]
-#[derive(Drop)]
+#[derive(Clone, Copy)]
 pub struct Level {
     pub millivolts: i32,
     pub remainder: u32,
 }
 
-#[derive(Drop)]
+#[derive(Clone, Copy)]
 pub enum CodeLevel {
     Level(Level),
     Refused(Refusal),
 }
 
 // What levels are read by: the code of 0 mV, and the codes to 700 mV, at 8 bits.
-#[derive(Drop)]
+#[derive(Clone, Copy)]
 struct Gauge {
     zero: u16,
     steps: u16,

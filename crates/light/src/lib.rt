@@ -1,4 +1,6 @@
 // The calls on lights (document 01, 'Light to code').
+#![tactic(auto)]
+
 ghost use Rattle.std.specs.Prelude.{◌≡◌, ◌∷◌, ◌+◌, ◌*◌, ◌≤◌, length, get_or};
 ghost use Rattle.systems.specs.Systems.{scale};
 ghost use Rattle.curve.specs.Curve.{code};
@@ -8,7 +10,7 @@ ghost use Rattle.light.specs.Light.{code_of_light, span, span_of_code, code_outc
 use curve::code_in;
 use systems::{Depth, Named, Refusal, System};
 
-#[derive(Drop)]
+#[derive(Clone, Copy)]
 pub enum LightCode {
     Code(u16),
     Refused(Refusal),
@@ -16,13 +18,13 @@ pub enum LightCode {
 
 // The lights from least to greatest, both included.
 #[repr(C)]
-#[derive(Drop)]
+#[derive(Clone, Copy)]
 pub struct Span {
     pub least: u16,
     pub greatest: u16,
 }
 
-#[derive(Drop)]
+#[derive(Clone, Copy)]
 pub enum CodeSpan {
     Lights(Span),
     Refused(Refusal),

@@ -1,4 +1,6 @@
 // The listing of a block that the program rowlist prints (document 01, 'Bench values', and request 2026-07).
+#![tactic(auto)]
+
 mod text;
 
 ghost use Rattle.std.specs.Prelude.{◌≡◌, ◌++◌, ◌+◌, ◌*◌, ◌≤◌, length, drop};

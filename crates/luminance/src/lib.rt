@@ -1,4 +1,6 @@
 // Luminance to code by a table of boundary luminances (request 2026-11): a weighted sum of lights, in ten-thousandths of one.
+#![tactic(auto)]
+
 ghost use Rattle.std.specs.Prelude.{◌≡◌, ◌≤◌, leb};
 ghost use mir.Val.{bool_byte};
 ghost use Rattle.luminance.specs.Luminance.{luminance_code};

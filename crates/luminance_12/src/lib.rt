@@ -1,5 +1,7 @@
 // The boundary luminances at 12 bits: entry j is the least luminance whose code is at least 16s + j + 1 (request 2026-11). The
 // curve's rule is proved of every entry here, once; a caller makes the table once and lends it to each lookup.
+#![tactic(auto)]
+
 mod table;
 
 ghost use Rattle.systems.specs.declared.System.TheVariants.{Bt2020Bits12};

@@ -1,4 +1,6 @@
 // Codes to words and back (document 01, 'Triples', and requests 2026-03, 2026-04 and 2026-07).
+#![tactic(auto)]
+
 ghost use Rattle.std.specs.Prelude.{◌≡◌, ◌+◌, ◌*◌, ◌^◌, ◌≤◌, ◌<◌, [], ◌∷◌, pos, nat_abs, ◌-ℤ◌, ◌<ℤ◌};
 ghost use Rattle.exact.specs.Signed.{rounded};
 ghost use Rattle.systems.specs.Systems.{matrix, scale, video_data};
@@ -9,7 +11,7 @@ use systems::{Codes, Matrix, Named, Range, Refusal, System};
 
 // Y', Cb and Cr words of a sample.
 #[repr(C)]
-#[derive(Drop)]
+#[derive(Clone, Copy)]
 pub struct Words {
     pub y: u16,
     pub cb: u16,
@@ -17,21 +19,21 @@ pub struct Words {
 }
 
 // The ranges that a sample's words are in.
-#[derive(Drop)]
+#[derive(Clone, Copy)]
 pub struct WordRanges {
     pub luma: Range,
     pub difference: Range,
 }
 
 // The rules that words are held to: the guard alone, or trim and then the guard.
-#[derive(Drop)]
+#[derive(Clone, Copy)]
 pub enum Encoding {
     Plain,
     Trim,
 }
 
 // Y', Cb and Cr of a sample's codes before the rules: some are below 0 or above the greatest word.
-#[derive(Drop)]
+#[derive(Clone, Copy)]
 pub struct Unlimited {
     pub y: i64,
     pub cb: i64,
@@ -39,21 +41,21 @@ pub struct Unlimited {
 }
 
 // The word that the rules leave of a number, and whether one of them moved it, 1 or 0.
-#[derive(Drop)]
+#[derive(Clone, Copy)]
 pub struct Ruled {
     pub word: u16,
     pub moved: u32,
 }
 
 // The words that the rules leave, and how many of them were moved.
-#[derive(Drop)]
+#[derive(Clone, Copy)]
 pub struct Limited {
     pub words: Words,
     pub moved: u32,
 }
 
 // R, G and B of a sample's words before they are clipped: some are below 0 or above the greatest code.
-#[derive(Drop)]
+#[derive(Clone, Copy)]
 pub struct Unclipped {
     pub r: i64,
     pub g: i64,
@@ -62,26 +64,26 @@ pub struct Unclipped {
 
 // How many components were brought up to the lower end of a range, and how many down to its upper end.
 #[repr(C)]
-#[derive(Drop)]
+#[derive(Clone, Copy)]
 pub struct Clips {
     pub low: u16,
     pub high: u16,
 }
 
 // The codes of a sample's words, and their clips.
-#[derive(Drop)]
+#[derive(Clone, Copy)]
 pub struct Clipped {
     pub codes: Codes,
     pub clips: Clips,
 }
 
-#[derive(Drop)]
+#[derive(Clone, Copy)]
 pub enum Encoded {
     Words(Limited),
     Refused(Refusal),
 }
 
-#[derive(Drop)]
+#[derive(Clone, Copy)]
 pub enum Decoded {
     Codes(Clipped),
     Refused(Refusal),

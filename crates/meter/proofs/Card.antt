@@ -4,6 +4,7 @@ use Prim.Native.Nat.{ℕ}
 use mathlib.Core.List.{List}
 use contract.Lifetimes.{Lfts}
 use denote.Ref.{Bor}
+use denote.MutBor.{MutBor}
 use Rattle.exact.specs.Outcome.{Outcome}
 use Rattle.block.specs.Read.{header_outcome}
 use Rattle.block.proofs.Told.{Row, told, Blocks}
@@ -17,7 +18,7 @@ use Rattle.meter.proofs.Calls.{Card}
 
 -- κs are the lifetimes of the two references, whatever they are
 pub data Reads (m : Meter) : List ℕ → List ℕ → Outcome Row → List ℕ → Meter → Type 0 where
-  by_read : (κs : Lfts 2) (bytes slice bytes' slice' : Bor (List ℕ)) (r : MeteredRead) (m' : Meter) → read-call.Post κs (m, (bytes, (slice, tt))) r (m', (bytes', (slice', tt)))
+  by_read : (κs : Lfts 2) (bytes : Bor (List ℕ)) (slice : MutBor (List ℕ)) (bytes' : Bor (List ℕ)) (slice' : MutBor (List ℕ)) (r : MeteredRead) (m' : Meter) → read-call.Post κs (m, (bytes, (slice, tt))) r (m', (bytes', (slice', tt)))
       → Reads m bytes.now slice.now (told (header_outcome r.read)) slice'.now r.meter
 
 pub data Shows (m : Meter) (f : Figures) : Type 0 where

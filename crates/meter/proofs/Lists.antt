@@ -7,7 +7,7 @@ use mathlib.Core.List.{List, [], ◌∷◌, ◌++◌, append-nil, append_assoc}
 use native.Mathlib.Omega.{arith}
 use lib.ListN.{length, length-set}
 use Rattle.exact.specs.Outcome.{Outcome, accepted, refused}
-use Rattle.exact.proofs.Lending.{lend, lifetimes}
+use Rattle.exact.proofs.Lending.{lend, lend_mut, lifetimes}
 use Rattle.matrix.specs.declared.Clips.{Clips}
 use Rattle.block.specs.declared.Header.{Header}
 use Rattle.block.specs.Read.{header_of, slice_by, slice_after}
@@ -165,7 +165,7 @@ faithful = record {
   reading = λ m bytes slice.
       let a = read_for bytes (length slice) in
       let after : Meter = metering m (header_of bytes (length slice)) in
-      (_, _, _, by_read lifetimes (lend bytes) (lend slice) (lend bytes) (lend (slice_after bytes slice)) (record { read = a.read; meter = after }) m (a.outcome, (refl, refl)));
+      (_, _, _, by_read lifetimes (lend bytes) (lend_mut slice) (lend bytes) (lend_mut (slice_after bytes slice)) (record { read = a.read; meter = after }) m (a.outcome, (refl, refl)));
   showing = λ m. (_, by_figures m refl);
 }
 

@@ -1,4 +1,6 @@
 // Clipping low and high over the 64 latest rows read (request 2026-08). proofs/Claims.antt says what holds of every list of reads.
+#![tactic(auto)]
+
 ghost use Rattle.std.specs.Prelude.{◌≡◌, true, ◌+◌, ◌≤◌, ◌<◌, min, length, set, take};
 ghost use Rattle.block.specs.Read.{header_of, header_outcome, slice_after};
 ghost use Rattle.meter.specs.Meter.{total, empty, in_turn, whole, kept, entered, metering, figures};
@@ -15,7 +17,7 @@ type Counts = [u16; MOST_HELD as usize];
 // The counts of the latest rows and their sums, where the counts of the next row go, and how many rows there are. The sums are kept,
 // so that a read costs the same however many rows came before. In this order of the fields a meter is copied without a call of memcpy.
 #[repr(C)]
-#[derive(Drop)]
+#[derive(Clone, Copy)]
 pub struct Meter {
     lows: Counts,
     low: u32,
@@ -27,7 +29,7 @@ pub struct Meter {
 
 // The sums over the rows that a meter holds, and how many rows these are.
 #[repr(C)]
-#[derive(Drop)]
+#[derive(Clone, Copy)]
 pub struct Figures {
     pub rows: u32,
     pub low: u32,
@@ -35,7 +37,7 @@ pub struct Figures {
 }
 
 // What reading the block gives, and the meter after it.
-#[derive(Drop)]
+#[derive(Clone, Copy)]
 pub struct MeteredRead {
     pub read: BlockRead,
     pub meter: Meter,

@@ -4,6 +4,7 @@ use Prim.Native.Nat.{ℕ}
 use mathlib.Core.List.{List}
 use contract.Lifetimes.{Lfts}
 use denote.Ref.{Bor}
+use denote.MutBor.{MutBor}
 use Rattle.exact.specs.Outcome as outcome
 use Rattle.exact.specs.Outcome.{Outcome}
 use Rattle.systems.specs.Systems.{number}
@@ -44,14 +45,14 @@ pub data Opens (p : Picture) (n w h : ℕ) : Answer → Picture → Type 0 where
 
 -- κs are the lifetimes of the two references, whatever they are
 pub data Rows (p : Picture) : List ℕ → List ℕ → Answer → List ℕ → Picture → Type 0 where
-  by_row : (κs : Lfts 2) (lights out lights' out' : Bor (List ℕ)) (r : Change) (p' : Picture) → row-call.Post κs (p, (lights, (out, tt))) r (p', (lights', (out', tt)))
+  by_row : (κs : Lfts 2) (lights : Bor (List ℕ)) (out : MutBor (List ℕ)) (lights' : Bor (List ℕ)) (out' : MutBor (List ℕ)) (r : Change) (p' : Picture) → row-call.Post κs (p, (lights, (out, tt))) r (p', (lights', (out', tt)))
       → Rows p lights.now out.now (answer_of (picture_outcome r)) out'.now (leads p (picture_outcome r))
 
 pub data Closes (p : Picture) : Answer → Picture → Type 0 where
   by_close : (r : Change) (p' : Picture) → close-call.Post tt (p, tt) r (p', tt) → Closes p (answer_of (picture_outcome r)) (leads p (picture_outcome r))
 
 pub data Reads : List ℕ → List ℕ → Outcome Label → List ℕ → Type 0 where
-  by_read_block : (κs : Lfts 2) (bytes slice bytes' slice' : Bor (List ℕ)) (r : BlockRead) → read-call.Post κs (bytes, (slice, tt)) r (bytes', (slice', tt))
+  by_read_block : (κs : Lfts 2) (bytes : Bor (List ℕ)) (slice : MutBor (List ℕ)) (bytes' : Bor (List ℕ)) (slice' : MutBor (List ℕ)) (r : BlockRead) → read-call.Post κs (bytes, (slice, tt)) r (bytes', (slice', tt))
       → Reads bytes.now slice.now (label_of (header_outcome r)) slice'.now
 
 pub data Totals (w h : ℕ) : Outcome ℕ → Type 0 where

@@ -5,7 +5,7 @@ use mathlib.Core.Path.{◌≡◌, refl, ap}
 use mathlib.Core.List.{List, [], ◌∷◌, map}
 use lib.ListN.{length}
 use Rattle.exact.specs.Outcome.{Outcome}
-use Rattle.exact.proofs.Lending.{lend, lifetimes}
+use Rattle.exact.proofs.Lending.{lend, lend_mut, lifetimes}
 use Rattle.block.specs.Read.{slice_after}
 use Rattle.block.proofs.Answerable.{read_for}
 use Rattle.picture.specs.declared.Phase.TheVariants.{Fresh}
@@ -85,10 +85,10 @@ answering = record {
   opens = λ p n w h. let a = change_for (open_answerable p.phase n w h) 0 in (_, _, by_open a.change p n w h a.outcome);
   rows = λ p lights out.
       let a = change_for (row_answerable p.phase lights (length out)) (with_block p.phase p.bytes) in
-      (_, _, _, by_row lifetimes (lend lights) (lend out) (lend lights) (lend (buffer_after p lights out)) a.change p (a.outcome, refl));
+      (_, _, _, by_row lifetimes (lend lights) (lend_mut out) (lend lights) (lend_mut (buffer_after p lights out)) a.change p (a.outcome, refl));
   closes = λ p. let a = change_for (close_answerable p.phase) p.bytes in (_, _, by_close a.change p a.outcome);
   reads = λ bytes slice.
       let a = read_for bytes (length slice) in
-      (_, _, by_read_block lifetimes (lend bytes) (lend slice) (lend bytes) (lend (slice_after bytes slice)) a.read (a.outcome, refl));
+      (_, _, by_read_block lifetimes (lend bytes) (lend_mut slice) (lend bytes) (lend_mut (slice_after bytes slice)) a.read (a.outcome, refl));
   totals = λ w h. let a = total_for (total_answerable w h) in (_, by_total_bytes a.total w h a.outcome);
 }

@@ -1,5 +1,7 @@
 // A picture taken row by row (document 01, 'Picture'). proofs/Demand.antt has the theorems over every list of these calls
 // (demand 3, and request 2026-06 of the bytes), and docs/THEOREM.md explains them.
+#![tactic(auto)]
+
 ghost use Rattle.std.specs.Prelude.{◌≡◌, ◌&&◌, ◌+◌, min, leb, length};
 ghost use Rattle.picture.specs.declared.Phase.TheVariants.{Fresh};
 ghost use Rattle.picture.specs.Picture.{at, around, sized, total_bytes, total_outcome, resumed, proper, begin_in, begin, open_from, opening, row_open, row_from, with_block, rowing, buffer_by, buffer_from, buffer_after, close_from, closing, picture_outcome};
@@ -10,7 +12,7 @@ use row::write_row;
 use systems::{MOST_ROWS, MOST_SAMPLES, Named, Refusal, System};
 
 // What an open picture was opened with, and how many of its rows were accepted.
-#[derive(Drop)]
+#[derive(Clone, Copy)]
 pub struct Opened {
     pub system: System,
     pub width: u16,
@@ -18,7 +20,7 @@ pub struct Opened {
     pub rows: u16,
 }
 
-#[derive(Drop)]
+#[derive(Clone, Copy)]
 pub enum Phase {
     Fresh,
     Open(Opened),
@@ -26,41 +28,41 @@ pub enum Phase {
 }
 
 // bytes: of the blocks accepted since the last accepted open. A closed picture keeps them.
-#[derive(Drop)]
+#[derive(Clone, Copy)]
 pub struct Picture {
     phase: Phase,
     bytes: u32,
 }
 
 // What a call makes of a picture. A refused picture stays as it was.
-#[derive(Drop)]
+#[derive(Clone, Copy)]
 pub enum Change {
     To(Picture),
     Refused(Refusal),
 }
 
 // What a call makes of the phase.
-#[derive(Drop)]
+#[derive(Clone, Copy)]
 enum Step {
     To(Phase),
     Refused(Refusal),
 }
 
 // The bytes of all blocks of a picture.
-#[derive(Drop)]
+#[derive(Clone, Copy)]
 pub enum Total {
     Bytes(u32),
     Refused(Refusal),
 }
 
 // A width and a height in their ranges.
-#[derive(Drop)]
+#[derive(Clone, Copy)]
 struct Size {
     width: u16,
     height: u16,
 }
 
-#[derive(Drop)]
+#[derive(Clone, Copy)]
 enum Sizing {
     To(Size),
     Refused(Refusal),

@@ -5,6 +5,7 @@ use mathlib.Core.Bool.{Bool, true, false}
 use mathlib.Core.List.{List}
 use contract.Lifetimes.{Lfts}
 use denote.Ref.{Bor}
+use denote.MutBor.{MutBor}
 use Rattle.exact.specs.Outcome.{Outcome, accepted, ◌and_then◌}
 use Rattle.block.proofs.Told.{Row, told, Blocks}
 use Rattle.picture.proofs.Card.{leads}
@@ -37,7 +38,7 @@ pub data Opens (r : Reader) (h : ℕ) : Outcome (Unit {0}) → Reader → Type 0
 
 -- κs are the lifetimes of the two references, whatever they are
 pub data Reads (r : Reader) : List ℕ → List ℕ → Outcome Row → List ℕ → Reader → Type 0 where
-  by_read : (κs : Lfts 2) (bytes slice bytes' slice' : Bor (List ℕ)) (a : RowRead) (r' : Reader) → read-call.Post κs (r, (bytes, (slice, tt))) a (r', (bytes', (slice', tt)))
+  by_read : (κs : Lfts 2) (bytes : Bor (List ℕ)) (slice : MutBor (List ℕ)) (bytes' : Bor (List ℕ)) (slice' : MutBor (List ℕ)) (a : RowRead) (r' : Reader) → read-call.Post κs (r, (bytes, (slice, tt))) a (r', (bytes', (slice', tt)))
       → Reads r bytes.now slice.now (told (heard_of (taken_outcome a))) slice'.now (leads r (next_reader (taken_outcome a)))
 
 pub data Completes (r : Reader) : Bool → Type 0 where

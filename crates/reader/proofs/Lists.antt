@@ -9,7 +9,7 @@ use lib.Dec.{eqb}
 use lib.ListN.{length}
 use borrow.Author.Tests.{eqb-true}
 use Rattle.exact.specs.Outcome.{Outcome, accepted, refused, ◌and_then◌}
-use Rattle.exact.proofs.Lending.{lend, lifetimes}
+use Rattle.exact.proofs.Lending.{lend, lend_mut, lifetimes}
 use Rattle.systems.specs.declared.refusal.Refusal.TheVariants as refusal
 use Rattle.systems.proofs.Ranges.{in_range_lem}
 use Rattle.systems.proofs.Answerable.{Answerable, values, refusing, tested, followed}
@@ -257,7 +257,7 @@ faithful = record {
   opening = λ k h. let a = change_for (opening_answerable k h) in (_, _, by_open a.change k h a.outcome);
   reading = λ k bytes slice.
       let a = row_for (taking_answerable k.phase bytes (length slice)) in
-      (_, _, _, by_read lifetimes (lend bytes) (lend slice) (lend bytes) (lend (slice_after k bytes slice)) a.read k (a.outcome, refl));
+      (_, _, _, by_read lifetimes (lend bytes) (lend_mut slice) (lend bytes) (lend_mut (slice_after k bytes slice)) a.read k (a.outcome, refl));
   completing = λ k. (_, by_phase k.phase k refl);
 }
 

@@ -1,5 +1,7 @@
 // A picture read from its blocks (request 2026-10): in order, of one system and one width. proofs/Claims.antt says what holds of
 // every list of these calls, and of a picture that was written and is read here.
+#![tactic(auto)]
+
 ghost use Rattle.std.specs.Prelude.{◌≡◌, ◌&&◌, ◌≤◌, leb, length};
 ghost use Rattle.exact.specs.Outcome.{accepted, refused};
 ghost use Rattle.systems.specs.Refusals.{refusal};
@@ -12,47 +14,47 @@ use block::{BlockRead, Header, Judged, Judgement, all_in, read_block, walk};
 use systems::{MOST_ROWS, MOST_SAMPLES, Refusal, System};
 
 // The system and width of the picture's rows, from the first accepted one on.
-#[derive(Drop)]
+#[derive(Clone, Copy)]
 pub enum Format {
     Unknown,
     Of(System, u16),
 }
 
 // What a reader was opened with, the number of the next row, and the format.
-#[derive(Drop)]
+#[derive(Clone, Copy)]
 pub struct Progress {
     pub height: u16,
     pub next: u16,
     pub format: Format,
 }
 
-#[derive(Drop)]
+#[derive(Clone, Copy)]
 pub enum Phase {
     Unopened,
     Reading(Progress),
     Complete,
 }
 
-#[derive(Drop)]
+#[derive(Clone, Copy)]
 pub struct Reader {
     phase: Phase,
 }
 
 // What a call makes of a reader. A refused reader stays as it was.
-#[derive(Drop)]
+#[derive(Clone, Copy)]
 pub enum Change {
     To(Reader),
     Refused(Refusal),
 }
 
 // What reading the block gives, and the reader after it.
-#[derive(Drop)]
+#[derive(Clone, Copy)]
 pub struct Taken {
     pub header: Header,
     pub reader: Reader,
 }
 
-#[derive(Drop)]
+#[derive(Clone, Copy)]
 pub enum RowRead {
     Row(Taken),
     Refused(Refusal),

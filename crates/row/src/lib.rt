@@ -1,4 +1,6 @@
 // The row block of a row of lights (document 01, 'Picture'), made in one pass: each light is looked up once.
+#![tactic(auto)]
+
 ghost use Rattle.std.specs.Prelude.{◌≡◌, ◌++◌, ◌+◌, ◌*◌, ◌<◌, ◌≤◌, length, drop};
 ghost use Rattle.systems.specs.Systems.{number};
 ghost use Rattle.curve.specs.Inner.{ReadyFor};

@@ -1,5 +1,7 @@
 // Lists the block on standard input: its system, row number, count, and the components clipped low and high, then R, G and B of each
 // sample, a line each; or the number of the refusal.
+#![tactic(auto)]
+
 fn main() {
     listing::list(libc::STDIN_FILENO, libc::STDOUT_FILENO);
 }

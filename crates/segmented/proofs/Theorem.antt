@@ -5,7 +5,7 @@ use mathlib.Core.Path.{◌≡◌, refl}
 use mathlib.Core.List.{List}
 use lib.ListN.{length}
 use Rattle.exact.specs.Outcome.{Outcome}
-use Rattle.exact.proofs.Lending.{lend, lifetimes}
+use Rattle.exact.proofs.Lending.{lend, lend_mut, lifetimes}
 use Rattle.systems.proofs.Answerable.{Answerable, values, refusing}
 use Rattle.segmented.specs.declared.Moved.{Moved}
 use Rattle.segmented.specs.declared.Moved.TheVariants as answer
@@ -33,8 +33,8 @@ happens : (o : Order) (bs out : List ℕ) → (a : Outcome (Unit {0})) × (left 
 happens o bs out = go o (answer_for (move_answerable (length bs) (length out)))
   where
     go : (o : Order) → (r : Moved) × (moved_outcome r ≡ move_outcome (length bs) (length out)) → (a : Outcome (Unit {0})) × (left : List ℕ) × Moves o bs out a left
-    go Segmented (r, e) = (_, _, by_to_segmented lifetimes (lend bs) (lend out) (lend bs) (lend (buffer_after Segmented bs out)) r (e, refl))
-    go Progressive (r, e) = (_, _, by_to_progressive lifetimes (lend bs) (lend out) (lend bs) (lend (buffer_after Progressive bs out)) r (e, refl))
+    go Segmented (r, e) = (_, _, by_to_segmented lifetimes (lend bs) (lend_mut out) (lend bs) (lend_mut (buffer_after Segmented bs out)) r (e, refl))
+    go Progressive (r, e) = (_, _, by_to_progressive lifetimes (lend bs) (lend_mut out) (lend bs) (lend_mut (buffer_after Progressive bs out)) r (e, refl))
 
 pub record Theorem : Type 2 where
   pub segments : {M : Type 1} → to-segmented-statement.statement M

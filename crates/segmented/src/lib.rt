@@ -1,4 +1,6 @@
 // The rows of a progressive picture in segmented-frame order, and back (request 2026-01).
+#![tactic(auto)]
+
 ghost use Rattle.std.specs.Prelude.{◌≡◌, ◌++◌, ◌+◌, ◌*◌, ◌<◌, ◌≤◌, length, take, drop};
 ghost use Rattle.segmented.specs.declared.Order.TheVariants.{Segmented, Progressive};
 ghost use Rattle.segmented.specs.Segmented.{source, byte_row, rows_by, can_move, move_outcome, buffer_after, moved_outcome};
@@ -6,14 +8,14 @@ ghost use Rattle.segmented.specs.Segmented.{source, byte_row, rows_by, can_move,
 use systems::Refusal;
 
 // What came of moving rows.
-#[derive(Drop)]
+#[derive(Clone, Copy)]
 pub enum Moved {
     Done,
     Refused(Refusal),
 }
 
 // The order into which rows are brought.
-#[derive(Drop)]
+#[derive(Clone, Copy)]
 pub enum Order {
     Segmented,
     Progressive,

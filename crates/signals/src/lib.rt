@@ -1,4 +1,6 @@
 // Float signals to codes and back (document 01, 'Float signals').
+#![tactic(auto)]
+
 ghost use Rattle.std.specs.Prelude.{◌≡◌, ◌*◌, ◌≤◌, T};
 ghost use Rattle.systems.specs.Systems.{scale};
 ghost use Rattle.signals.specs.Signals.{in_unit, all_in_unit, component, quantised_at, signal_codes, nearest, signals_at, code_signals, quantised_outcome, restored_outcome};
@@ -7,7 +9,7 @@ use systems::{Codes, Named, Refusal, System};
 
 // A triple of signals E', each from 0 to 1.
 #[repr(C)]
-#[derive(Drop)]
+#[derive(Clone, Copy)]
 pub struct Signals {
     pub r: f32,
     pub g: f32,
@@ -15,14 +17,14 @@ pub struct Signals {
 }
 
 // The codes of a triple of signals.
-#[derive(Drop)]
+#[derive(Clone, Copy)]
 pub enum Quantised {
     Codes(Codes),
     Refused(Refusal),
 }
 
 // The signals of a triple of codes.
-#[derive(Drop)]
+#[derive(Clone, Copy)]
 pub enum Restored {
     Signals(Signals),
     Refused(Refusal),

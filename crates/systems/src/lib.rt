@@ -1,5 +1,7 @@
 // The four systems of document 01, 'Four systems', with their constants, the weights of 'Triples' and the refusals of
 // 'What the caller hears'. Each constant is written once, here.
+#![tactic(auto)]
+
 mod refusal;
 
 ghost use Rattle.std.specs.Prelude.{◌≡◌, pos};
@@ -9,14 +11,14 @@ ghost use Rattle.systems.specs.Inner.{bits_of};
 pub use refusal::Refusal;
 
 // A Recommendation's matrix.
-#[derive(Drop)]
+#[derive(Clone, Copy)]
 pub enum Matrix {
     Bt709,
     Bt2020,
 }
 
 // A bit depth.
-#[derive(Drop)]
+#[derive(Clone, Copy)]
 pub enum Depth {
     Bits8,
     Bits10,
@@ -24,7 +26,7 @@ pub enum Depth {
 }
 
 // A Recommendation at a bit depth.
-#[derive(Drop)]
+#[derive(Clone, Copy)]
 pub enum System {
     Bt709Bits8,
     Bt709Bits10,
@@ -33,21 +35,21 @@ pub enum System {
 }
 
 // The system that a number names.
-#[derive(Drop)]
+#[derive(Clone, Copy)]
 pub enum Named {
     Known(System),
     Unknown,
 }
 
 // α and β of the transfer function, in ten-thousandths.
-#[derive(Drop)]
+#[derive(Clone, Copy)]
 pub struct Transfer {
     pub alpha: u32,
     pub beta: u32,
 }
 
 // The codes from low to high, both included.
-#[derive(Drop)]
+#[derive(Clone, Copy)]
 pub struct Range {
     pub low: u16,
     pub high: u16,
@@ -55,7 +57,7 @@ pub struct Range {
 
 // R', G' and B' codes of a sample.
 #[repr(C)]
-#[derive(Drop)]
+#[derive(Clone, Copy)]
 pub struct Codes {
     pub r: u16,
     pub g: u16,
@@ -63,7 +65,7 @@ pub struct Codes {
 }
 
 // The shares of R', G' and B' in Y', in ten-thousandths.
-#[derive(Drop)]
+#[derive(Clone, Copy)]
 pub struct Weights {
     pub kr: i64,
     pub kg: i64,

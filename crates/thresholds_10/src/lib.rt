@@ -1,5 +1,7 @@
 // The boundary lights at 10 bits: entry j is the least light whose code is at least 16s + j + 1 (document 01, 'Light to
 // code'). The curve's rule is proved of every entry here, once; a caller makes the table once and lends it to each lookup.
+#![tactic(auto)]
+
 mod table;
 
 ghost use Rattle.curve.specs.Inner.{BoundariesAt, IndexAt};

@@ -1,19 +1,38 @@
 // The files of data/, which the scripts of reference/ make, and the numbers in them.
 ghost use Rattle.std.specs.Prelude.{◌≡◌, ◌+◌, ◌*◌, ◌≤◌, length};
-ghost use Rattle.io.specs.Counts.{IsPrefixLen};
+ghost use Rattle.std.specs.Io.{ReadsAtMost};
 ghost use Rattle.check_records.specs.Records.{u16_at, u32_at};
 
+use std::io::Read;
+use std::rt::Files;
+use std::{fs, io};
+
 // Reads a file to the front of buf and answers its length: 0 where it does not open, or where buf is too short to show its end.
-pub fn read(path: &[u8], buf: &mut [u8]) -> usize
-    ensures { IsPrefixLen result buf.new }
+pub fn read<R: Files>(rt: &R, path: &str, buf: &mut [u8]) -> io::Result<usize>
+    ensures { ReadsAtMost result buf.new }
 {
-    let fd = os::open_read(path);
-    if fd < 0 {
-        return 0;
+    match fs::open(rt, path) {
+        Ok(mut file) => {
+            let n = fill(&mut file, buf)?;
+            Ok(if n < buf.len() { n } else { 0 })
+        }
+        Err(_) => Ok(0),
     }
-    let n = io::read_full(fd, buf);
-    libc::close(fd);
-    if n < buf.len() { n } else { 0 }
+}
+
+// Reads to the front of buf until it is full or the input ends, and answers how many bytes it read.
+fn fill<R: Read>(reader: &mut R, buf: &mut [u8]) -> io::Result<usize>
+    ensures { ReadsAtMost result buf.new }
+{
+    let mut done = 0;
+    while done < buf.len() {
+        let n = reader.read(&mut buf[done..])?;
+        if n == 0 {
+            break;
+        }
+        done += n;
+    }
+    Ok(done)
 }
 
 // The 16-bit number at a place, low byte first.

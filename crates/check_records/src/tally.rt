@@ -2,6 +2,8 @@
 ghost use Rattle.std.specs.Prelude.{◌≡◌};
 ghost use Rattle.check_records.specs.Records.{more, tallied, ended};
 
+use std::io;
+
 #[derive(Clone, Copy)]
 pub struct Tally {
     pub compared: u64,
@@ -15,6 +17,7 @@ impl Tally {
     };
 
     // One comparison more.
+    #[tactic(auto, unfolding(crate::specs::Records::tallied))]
     pub fn with(self, same: bool) -> Tally
         ensures { result ≡ tallied self same }
     {
@@ -25,6 +28,7 @@ impl Tally {
     }
 
     // The end of the data, of which so many bytes are left: a case that is cut off differs.
+    #[tactic(auto, unfolding(crate::specs::Records::ended))]
     pub fn ended(self, left: usize) -> Tally
         ensures { result ≡ ended self left }
     {
@@ -32,13 +36,11 @@ impl Tally {
     }
 
     // Writes a line such as 'spans 5479 compared, 0 differ'.
-    pub fn print(self, check: &[u8]) {
-        io::write_all(libc::STDOUT_FILENO, check);
-        io::write_all(libc::STDOUT_FILENO, b" ");
-        io::print_decimal(libc::STDOUT_FILENO, self.compared);
-        io::write_all(libc::STDOUT_FILENO, b" compared, ");
-        io::print_decimal(libc::STDOUT_FILENO, self.differ);
-        io::write_all(libc::STDOUT_FILENO, b" differ\n");
+    pub fn print(self, rt: &impl Print, check: &str) -> io::Result<()> {
+        println!(rt;
+            "{check} {} compared, {} differ",
+            self.compared, self.differ
+        )
     }
 }
 

@@ -1,9 +1,9 @@
 -- The unit of light does not matter: c·k of c·u has the code of k of u, whatever the scale s, α and β are.
 -- Assumes nothing.
-use mathlib.Core.Path.{◌≡◌, refl, sym, ap, ◌∙◌}
-use mathlib.Core.Bool.{Bool, true, false}
-use mathlib.Core.Logic.{◌⊎◌, inl, inr}
-use Prim.Native.Nat.{ℕ, zero, suc, ◌+◌, ◌*◌, ◌-◌, ◌^◌, ◌≤◌, ◌<◌}
+use mathlib.Core.Path.{◌≡◌, sym, ap, ◌∙◌}
+use mathlib.Core.Bool.{true, false}
+use mathlib.Core.Logic.{inl, inr}
+use Prim.Native.Nat.{ℕ, zero, suc, ◌+◌, ◌*◌, ◌-◌, ◌^◌, ◌<◌}
 use native.Mathlib.Nat.{mul-le-mul_left, mul_assoc, mul_left_comm, mul-mul-mul_comm, mul-suc, mul-add, pow-zero, pow-suc, pow-le-pow_left}
 use native.Mathlib.Omega.{arith}
 use lib.Dec.{leb, ltb}

@@ -55,7 +55,7 @@ no_words = record { y = 0; cb = 0; cr = 0 }
 
 abbrev pub words_answer : Outcome Limited → WordsAnswer
 words_answer (accepted l) = record { refusal = 0; moved = l.moved; words = l.words }
-words_answer (refused n) = record { refusal = n; moved = 0; words = no_words }
+words_answer (refused n) = record { refusal = n; moved = 0; words = record { y = 0; cb = 0; cr = 0 } }
 
 abbrev pub decoded_answer : Outcome Clipped → DecodedAnswer
 decoded_answer (accepted c) = record { refusal = 0; clips = c.clips; codes = c.codes }

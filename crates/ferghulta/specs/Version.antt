@@ -8,4 +8,4 @@ numbered major minor patch = 10000 * major + 100 * minor + patch
 
 -- the version of this interface
 abbrev pub version : ℕ
-version = numbered 5 4 0
+version = numbered 5 3 0

@@ -4,7 +4,7 @@ ghost use Rattle.ferghulta.specs.Version.{version};
 
 const MAJOR: u32 = 5;
 
-const MINOR: u32 = 4;
+const MINOR: u32 = 3;
 
 const PATCH: u32 = 0;
 

@@ -1,4 +1,5 @@
 pub mod Claims
+pub mod TowardZero
 pub mod Solution
 pub mod Rise
 pub mod Theorem

@@ -2,10 +2,10 @@
 #![tactic(auto)]
 
 ghost use Rattle.std.specs.Prelude.{◌≡◌, ◌^◌, ◌<◌, pos, nat_abs, ◌<ℤ◌};
+ghost use Rattle.std.specs.Int.Signed.{shr_z};
 ghost use Rattle.systems.specs.Systems.{scale};
 ghost use Rattle.levels.specs.Levels.{level_ratio, divided, level_by, level_of_code, level_of_difference, level_outcome};
 
-use exact::floor;
 use systems::{Named, Range, Refusal, System};
 
 // Whole millivolts, rounded down, and the remainder over 219s or 224s.
@@ -97,4 +97,16 @@ fn divided(top: i64, bottom: i64) -> Level
         millivolts: whole as i32,
         remainder: (top - whole * bottom) as u32,
     }
+}
+
+// A ratio rounded down. Division goes toward zero, which is one above where it leaves something below 0.
+fn floor(top: i64, bottom: i64) -> i64
+    requires { (nat_abs top < 2 ^ 31) × (pos 0 <ℤ bottom) × (nat_abs bottom < 2 ^ 31) }
+    ensures { result ≡ shr_z top (nat_abs bottom) }
+{
+    let quotient = top / bottom;
+    if top % bottom < 0 {
+        return quotient - 1;
+    }
+    quotient
 }

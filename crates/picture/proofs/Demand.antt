@@ -22,7 +22,7 @@ use Rattle.picture.specs.declared.Phase.{Phase}
 use Rattle.picture.specs.declared.Phase.TheVariants.{Fresh, Open, Closed}
 use Rattle.picture.specs.declared.Picture.{Picture}
 use Rattle.picture.specs.Picture.{at, around, total_bytes, opening, row_open, row_from, rowing, buffer_by, buffer_from, buffer_after, closing}
-use Rattle.picture.specs.Book.{Call, opens, rows, closes, State, fresh, Answer, accepted, refused, Entry, accepts, enters, choose, answers_from, entries_from, sum_from}
+use Rattle.picture.specs.Book.{Call, opens, rows, closes, State, fresh, Answer, refused, Entry, accepts, enters, choose, answers_from, entries_from, sum_from}
 use Rattle.picture.proofs.Agreement.{split}
 use Rattle.picture.proofs.Calls.{Label, Card, Lent, Lights, Ran, ends, after_open, after_row, after_close, History}
 use Rattle.picture.proofs.Card.{answer_of, label_of, Opens, by_open, Rows, by_row, Closes, by_close, Reads, by_read_block, Totals, by_total_bytes, card}

@@ -69,6 +69,7 @@ enum Sizing {
 }
 
 // How many bytes a picture will take. Refused: 2, then 3.
+#[tactic(auto, using(crate::proofs::Totals::total_most, crate::proofs::Totals::sized_bounded))]
 pub fn total_bytes(width: u32, height: u32) -> Total
     ensures { total_outcome result ≡ total_bytes width height }
 {
@@ -187,6 +188,7 @@ fn resumed(phase: Phase, bytes: u32) -> Phase
 }
 
 // Whether calls can make it.
+#[tactic(auto, using(crate::proofs::Totals::product_most), unfolding(crate::specs::Picture::proper))]
 fn is_proper(o: Opened, bytes: u32) -> bool
     ensures { result ≡ proper o bytes }
 {
@@ -205,6 +207,7 @@ fn open_from(phase: Phase, system: u32, width: u32, height: u32) -> Step
     }
 }
 
+#[tactic(auto, unfolding(crate::specs::Picture::begin))]
 fn begin(system: u32, width: u32, height: u32) -> Step
     ensures { phase_outcome result ≡ begin system width height }
 {
@@ -237,6 +240,7 @@ fn row_from(phase: Phase, lights: &[u16], out: &mut [u8]) -> Step
     }
 }
 
+#[tactic(auto, unfolding(crate::specs::Picture::row_open))]
 fn next_row(o: Opened, lights: &[u16], out: &mut [u8]) -> Step
     ensures { (phase_outcome result ≡ row_open o lights.now (length out.old)) × (out.new ≡ buffer_by (row_open o lights.now (length out.old)) o lights.now out.old) }
 {
@@ -279,6 +283,7 @@ fn close_from(phase: Phase) -> Step
     }
 }
 
+#[tactic(auto, unfolding(crate::specs::Picture::sized))]
 fn sized(width: u32, height: u32) -> Sizing
     ensures { size_outcome result ≡ sized width height }
 {

@@ -3,7 +3,7 @@
 use Prim.Native.Nat.{ℕ, ◌+◌, ◌*◌, ◌≤◌, ◌<◌}
 use mathlib.Core.Path.{◌≡◌, refl, sym, ap, subst, ◌∙◌}
 use mathlib.Core.Bool.{true}
-use mathlib.Core.List.{List, map}
+use mathlib.Core.List.{List, ◌∷◌, map}
 use native.Mathlib.Omega.{arith}
 use lib.Dec.{eqb}
 use lib.ListN.{length, take, get_or}
@@ -36,9 +36,9 @@ use Rattle.reader.specs.declared.Reader.{Reader}
 use Rattle.reader.specs.Reader.{at, alike, after, in_turn, taking_from, heard_of, slice_after}
 use Rattle.reader.specs.Reader as defined
 use Rattle.reader.specs.Book.{heard}
-use Rattle.reader.proofs.Calls.{Card, Made, Ran, ends, after_block}
+use Rattle.reader.proofs.Calls.{Card, Made, Ran, ends, after_open, after_block}
 use Rattle.reader.proofs.Card.{next_reader, is_complete, card}
-use Rattle.reader.proofs.Claims.{given, GivenInOrder, none, next, ReadRow, ReadRows, Together}
+use Rattle.reader.proofs.Claims.{Given, bytes_and_slice, given, GivenInOrder, none, next, ReadRow, ReadRows, Together}
 use Rattle.reader.proofs.Lists.{Faithful, faithful}
 use Rattle.reader.proofs.Rows.{row_of}
 use Rattle.reader.proofs.Sent.{Entered, sent_whole, sent_with}
@@ -76,6 +76,11 @@ reads_as {card} {bytes} {e} does calls back slice long =
       numbered = back.numbered;
       codes = rw f.1 at read.codes;
     }
+
+-- the first block that is given in order is the first one that was left
+first_given : (w : ℕ) {l : Lent} {bytes slice : List ℕ} {ls : List Lent} {gs : List Given} → GivenInOrder w (l ∷ ls) (bytes_and_slice bytes slice ∷ gs)
+    → (bytes ≡ take (9 + 6 * w) l.after) × (3 * w ≤ length slice) × GivenInOrder w ls gs
+first_given w (next long later) = (refl, long, later)
 
 -- ---- the reader on its way: i rows were accepted, of the system n and width w
 
@@ -127,11 +132,12 @@ module _ (n w h : ℕ) where
         → Blocks writes ls es → Entered n w i es → GivenInOrder w ls (map given ms) → ReadRows es ms × (is_complete (takes.reader q).phase ≡ true)
     unfolding Entered
     rows_return g count ends none entered none = (none, ends_complete g (omega arith))
-    rows_return {i} {k} g count (after_block {left = left} {o = o} call run) (one {l = l} {e = e} back stays rest) entered (next {slice = slice} long later) =
+    rows_return {i} {k} g count (after_block {slice = slice} {left = left} {o = o} call run) (one {l = l} {e = e} back stays rest) entered shown =
+        let first = first_given w shown in
         let bytes = take (9 + 6 * w) l.after in
         let own = subst (λ (v : ℕ). ReadsBack writes (take (9 + 6 * v) l.after) e) entered.1 back in
-        let as_row = reads_as does calls own slice (rw entered.1 long) in
-        let follows = takes.reads call in
+        let as_row = reads_as does calls own slice (rw entered.1 first.1) in
+        let follows = takes.reads (rw first.0 at call) in
         let led = leads_on {f = (takes.reader k).phase} {bytes = bytes} {slice = slice} g (omega arith) as_row.accepts (as_row.system ∙ entered.0) (as_row.samples ∙ entered.1) (as_row.row ∙ entered.2) in
         let same : left ≡ block-reading.slice_after bytes slice = follows.slice_left ∙ ap (λ (k : Outcome Header). block-reading.slice_by k bytes slice) (led.takes ∙ sym as_row.accepts) in
         let row : ReadRow e o left = record {
@@ -144,8 +150,11 @@ module _ (n w h : ℕ) where
           numbered = as_row.numbered;
           codes = rw same as_row.codes;
         } in
-        let others = rows_return (rw follows.next led.leads_to) (omega arith) run rest entered.3 later in
+        let others = rows_return {i = i + 1} (rw follows.next led.leads_to) (omega arith) run rest entered.3 first.2 in
         (next row others.0, others.1)
+    rows_return g count ends (one back stays rest) entered shown = elim shown [ ]
+    rows_return g count (after_open call run) sent entered shown = elim shown [ ]
+    rows_return g count (after_block call run) none entered shown = elim shown [ ]
 
 -- ---- any two cards that do what the definitions say
 

@@ -9,7 +9,7 @@ use lib.Dec.{eqb}
 use lib.ListN.{length}
 use borrow.Author.Tests.{eqb-true}
 use Rattle.exact.proofs.Boolean.{each_of_three}
-use Rattle.picture.specs.Book.{Call, opens, rows, closes, State, fresh, opened, closed, Sheet, Entry, Answer, accepted, among, in_ranges, accepts, next, entries_from, answers}
+use Rattle.picture.specs.Book.{Call, opens, rows, closes, State, fresh, opened, closed, Sheet, Entry, Answer, accepted, among, in_ranges, accepts, next, entries_from}
 use Rattle.picture.proofs.Agreement.{split, Agree, both_accept, both_refuse, accepts_unless_a_condition_holds}
 use Rattle.picture.proofs.Calls.{Card, Lent}
 use Rattle.picture.proofs.Claims.{Blocks, accepted_rows, state_of, state_from, NoOpening}

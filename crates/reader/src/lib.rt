@@ -102,6 +102,7 @@ impl Reader {
     }
 
     // Reads a block as read_block does, where it is the next row. Refused: 36; then as in reading, with 5; then 34, 35.
+    #[tactic(auto, using(crate::proofs::Turns::next_row, crate::proofs::Turns::no_turn))]
     pub fn read(self, bytes: &[u8], codes: &mut [u16]) -> RowRead
         ensures result_value { taken_outcome result ≡ taking self bytes.now (length codes.old) }
         ensures codes_after { codes.new ≡ slice_after self bytes.now codes.old }
@@ -129,6 +130,7 @@ impl Reader {
     }
 }
 
+#[tactic(auto, using(block::proofs::Walking::walk_accepted), unfolding(crate::specs::Inner::turn_from))]
 fn turn_from(p: Progress, bytes: &[u8], room: usize) -> Change
     ensures { reader_outcome result ≡ turn_from p bytes.now room }
 {
@@ -142,6 +144,7 @@ fn turn_from(p: Progress, bytes: &[u8], room: usize) -> Change
 }
 
 // The reader after a row, where it is the next one and like the first.
+#[tactic(auto, unfolding(crate::specs::Reader::in_turn))]
 fn in_turn(p: Progress, b: Judged) -> Change
     requires { b.row ≤ 4319 }
     ensures { reader_outcome result ≡ in_turn p b.system b.row b.samples }
@@ -160,6 +163,7 @@ fn in_turn(p: Progress, b: Judged) -> Change
 }
 
 // The words and the room of a walked block are tested before its turn refuses it.
+#[tactic(auto, using(block::proofs::Walking::walk_accepted), unfolding(block::specs::Read::header_of, block::specs::Read::judge))]
 fn before_turn(b: Judged, bytes: &[u8], room: usize, turn: Refusal) -> Refusal
     requires { walk bytes.now ≡ accepted b }
     ensures { refused (refusal result) ≡ before_turn (header_of bytes.now room) (refusal turn) }
@@ -213,6 +217,7 @@ fn resumed(phase: Phase) -> Phase
 }
 
 // Whether calls can make it.
+#[tactic(auto, unfolding(crate::specs::Reader::proper))]
 fn is_proper(p: Progress) -> bool
     ensures { result ≡ proper p }
 {

@@ -1,9 +1,0 @@
-use borrow.Author.Rules.{rules}
-use Rattle.ferghulta.proofs.calls.ferghulta_trimmed_words_of_codes.Statement.{statement}
-use Rattle.ferghulta.proofs.calls.ferghulta_trimmed_words_of_codes.Tie as tie
-
-returns : tie.Need-returns
-returns c = c.encode.ensures
-
-pub ferghulta-trimmed-words-of-codes-spec : {M : Type 1} → statement M
-ferghulta-trimmed-words-of-codes-spec = tie.close (tie.spec (λ c κs. search rules) returns)

@@ -8,7 +8,6 @@ use native.Mathlib.Omega.{arith}
 use lib.Dec.{leb}
 use Rattle.exact.specs.Outcome.{Outcome, accepted, refused}
 use Rattle.systems.specs.declared.System.{System}
-use Rattle.matrix.specs.declared.Clips.{Clips}
 use Rattle.matrix.specs.declared.Words.{Words}
 use Rattle.matrix.proofs.Claims.{Alike, former_total}
 use Rattle.matrix.proofs.LowAndHigh.{triple_clips, triple-sum}

@@ -4,8 +4,8 @@
 
 use core::fmt;
 
-/// The version of the header that this file follows, as one number: 50400 is 5.4.0.
-pub const VERSION: u32 = 50400;
+/// The version of the header that this file follows, as one number: 50300 is 5.3.0.
+pub const VERSION: u32 = 50300;
 
 /// The version of the archive that the program is linked with.
 #[must_use]

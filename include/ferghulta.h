@@ -29,11 +29,11 @@
 #include <stdint.h>
 
 #define FERGHULTA_VERSION_MAJOR 5
-#define FERGHULTA_VERSION_MINOR 4
+#define FERGHULTA_VERSION_MINOR 3
 #define FERGHULTA_VERSION_PATCH 0
-#define FERGHULTA_VERSION "5.4.0"
+#define FERGHULTA_VERSION "5.3.0"
 
-/* The version as one number to compare, in #if too: 50400 is 5.4.0. CHANGELOG.md says what a version promises. */
+/* The version as one number to compare, in #if too: 50300 is 5.3.0. CHANGELOG.md says what a version promises. */
 #define FERGHULTA_VERSION_NUMBER                                                                                       \
     (10000 * FERGHULTA_VERSION_MAJOR + 100 * FERGHULTA_VERSION_MINOR + FERGHULTA_VERSION_PATCH)
 

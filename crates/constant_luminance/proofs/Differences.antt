@@ -3,8 +3,8 @@
 -- Assumes nothing.
 use mathlib.Core.Path.{◌≡◌, refl, ap, subst⁻¹, ◌∙◌}
 use mathlib.Core.Bool.{Bool, true, false}
-use mathlib.Core.Logic.{◌⊎◌, inl, inr}
-use Prim.Native.Nat.{ℕ, ◌+◌, ◌*◌, ◌-◌, ◌≤◌, ◌<◌}
+use mathlib.Core.Logic.{inl, inr}
+use Prim.Native.Nat.{ℕ, ◌+◌, ◌*◌, ◌≤◌, ◌<◌}
 use native.Mathlib.Nat.{mul-le-mul_right, add-mul, mul_assoc, lt_of_mul-lt-mul_right}
 use native.Mathlib.Omega.{arith}
 use lib.Dec.{leb, lit<}
@@ -19,7 +19,7 @@ use Rattle.matrix.proofs.Nominal.{Word, word}
 use Rattle.matrix.proofs.Return.{off}
 use Rattle.matrix.proofs.Clipping.{OffByOne}
 use Rattle.constant_luminance.specs.declared.Divisors.{Divisors}
-use Rattle.constant_luminance.specs.ConstantLuminance.{divisor, difference, primary}
+use Rattle.constant_luminance.specs.ConstantLuminance.{difference, primary}
 use Rattle.constant_luminance.proofs.Spread.{Reach, Apart}
 
 -- ---- the fractions with their numerators as differences of naturals

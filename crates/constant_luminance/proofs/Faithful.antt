@@ -1,11 +1,9 @@
 -- What is claimed holds of every card that does what the definitions say.
 -- Assumes nothing.
-use Prim.Native.Nat.{ℕ, ◌+◌, ◌*◌, ◌-◌, ◌≤◌, ◌<◌}
-use mathlib.Core.Path.{◌≡◌, refl, sym, ap, subst, ◌∙◌}
+use Prim.Native.Nat.{ℕ, ◌+◌, ◌*◌, ◌-◌, ◌≤◌}
+use mathlib.Core.Path.{◌≡◌, refl, sym, ap, ◌∙◌}
 use mathlib.Core.Bool.{Bool, true, false}
-use native.Mathlib.Nat.{lt_irrefl}
 use native.Mathlib.Omega.{arith}
-use lib.Dec.{leb, lit<}
 use lib.IntN.{ℤ, pos, ◌+ℤ◌, ◌-ℤ◌, ◌*ℤ◌}
 use borrow.Author.Tests.{le-leb, lt-leb}
 use Rattle.exact.specs.Outcome.{Outcome, accepted, refused, ◌and_then◌, require}
@@ -14,7 +12,7 @@ use Rattle.exact.proofs.Difference.{sub_pos}
 use Rattle.systems.specs.declared.System.{System}
 use Rattle.systems.specs.Systems.{scale, video_data, within, timing}
 use Rattle.systems.proofs.Scales.{scale_range}
-use Rattle.curve.specs.Curve.{code_of, code}
+use Rattle.curve.specs.Curve.{code}
 use Rattle.curve.proofs.Lights.{code_low, code_high}
 use Rattle.luminance.specs.Luminance.{luminance_code}
 use Rattle.luminance.proofs.Luminances.{rule, luminance_high, of_light}
@@ -23,7 +21,7 @@ use Rattle.matrix.specs.Triples.{natural, words_within, clipped, beyond, no_clip
 use Rattle.matrix.specs.Inner.{WordsIn, nominal_at}
 use Rattle.matrix.proofs.Nominal.{untimed}
 use Rattle.matrix.proofs.Return.{whole_stays}
-use Rattle.matrix.proofs.Clipping.{OffByOne, clipped_nearer, kept_whole}
+use Rattle.matrix.proofs.Clipping.{OffByOne, kept_whole}
 use Rattle.constant_luminance.specs.declared.ConstantSystem.{ConstantSystem}
 use Rattle.constant_luminance.specs.declared.ConstantSystem.TheVariants.{Bits10, Bits12}
 use Rattle.constant_luminance.specs.declared.Lights.{Lights}
@@ -34,7 +32,7 @@ use Rattle.constant_luminance.specs.Inner.{Sized}
 use Rattle.constant_luminance.proofs.Claims.{Card, Constant, bits10, bits12, Lit, DifferenceBy, PrimaryBy, WordsOf, CodesOf, Returned, grey, grey_words, grey_codes, Accepts, Claimed}
 use Rattle.constant_luminance.proofs.Numbers.{named_number, unnamed}
 use Rattle.constant_luminance.proofs.Sizes.{divisor_sized, blue_sized, red_sized}
-use Rattle.constant_luminance.proofs.Differences.{Differs, difference_rounds, primary_rounds}
+use Rattle.constant_luminance.proofs.Differences.{difference_rounds, primary_rounds}
 use Rattle.constant_luminance.proofs.Words.{cb_of_lem, cr_of_lem, words_are}
 
 pub record Faithful (card : Card) : Type 0 where

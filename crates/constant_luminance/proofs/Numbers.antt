@@ -4,10 +4,7 @@ use Prim.Native.Nat.{ℕ}
 use mathlib.Core.Path.{◌≡◌, refl}
 use mathlib.Core.Bool.{true, false}
 use borrow.Author.Tests.{ne_eqb}
-use Rattle.exact.specs.Outcome.{Outcome, accepted, refused}
-use Rattle.systems.specs.declared.System.{System}
-use Rattle.systems.specs.declared.System.TheVariants.{Bt709Bits8, Bt709Bits10, Bt2020Bits10, Bt2020Bits12}
-use Rattle.systems.specs.Systems as four
+use Rattle.exact.specs.Outcome.{accepted, refused}
 use Rattle.constant_luminance.specs.declared.ConstantSystem.{ConstantSystem}
 use Rattle.constant_luminance.specs.declared.ConstantSystem.TheVariants.{Bits10, Bits12}
 use Rattle.constant_luminance.specs.ConstantLuminance.{number, named}

@@ -27,7 +27,7 @@ use Rattle.constant_luminance.proofs.words_of_lights.Statement as encode-stateme
 use Rattle.constant_luminance.proofs.words_of_lights.Met as encode-met
 use Rattle.constant_luminance.proofs.codes_of_words.Statement as decode-statement
 use Rattle.constant_luminance.proofs.codes_of_words.Met as decode-met
-use Rattle.constant_luminance.proofs.Claims.{Claimed, grey_words}
+use Rattle.constant_luminance.proofs.Claims.{Claimed}
 use Rattle.constant_luminance.proofs.Card.{Encodes, by_words_of_lights, Decodes, by_codes_of_words, card}
 use Rattle.constant_luminance.proofs.Faithful.{Faithful, claimed}
 

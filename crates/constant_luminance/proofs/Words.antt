@@ -1,7 +1,6 @@
 -- The words of every triple of light are nominal as INT leaves them.
 -- Assumes nothing.
 use mathlib.Core.Path.{◌≡◌}
-use Prim.Native.Nat.{ℕ, ◌*◌, ◌≤◌}
 use lib.Dec.{lit<, lit≤}
 use Rattle.systems.specs.Systems.{scale}
 use Rattle.curve.specs.Curve.{code}

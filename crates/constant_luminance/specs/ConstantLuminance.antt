@@ -7,7 +7,7 @@ use Rattle.exact.specs.Outcome.{Outcome, accepted, refused, ◌and_then◌, requ
 use Rattle.systems.specs.declared.System.{System}
 use Rattle.systems.specs.declared.System.TheVariants.{Bt2020Bits10, Bt2020Bits12}
 use Rattle.systems.specs.declared.Matrix.TheVariants.{Bt2020}
-use Rattle.systems.specs.Systems.{scale, kr, kg, kb, middle, video_data}
+use Rattle.systems.specs.Systems.{kr, kg, kb, middle, video_data}
 use Rattle.systems.specs.Refusals.{refusal}
 use Rattle.curve.specs.Curve.{code}
 use Rattle.luminance.specs.Luminance.{luminance_code}

@@ -113,5 +113,5 @@ fn move_row(bytes: usize, from: &[u8], source: usize, to: &mut [u8], place: usiz
 {
     let start = bytes * source;
     let at = bytes * place;
-    bytes::copy(&from[start..start + bytes], &mut to[at..at + bytes]);
+    to[at..at + bytes].copy_from_slice(&from[start..start + bytes]);
 }

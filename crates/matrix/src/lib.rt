@@ -212,6 +212,7 @@ fn guarded(video: Range, v: i64) -> Ruled
 }
 
 // Y', Cb and Cr held to the rules.
+#[tactic(auto, unfolding(crate::specs::Triples::limited))]
 fn limited_in(y: System, encoding: Encoding, v: Unlimited) -> Limited
     ensures { result ≡ limited encoding (video_data y) (nominal_words y) v }
 {

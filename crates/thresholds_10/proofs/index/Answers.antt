@@ -1,16 +1,11 @@
--- The 10-bit index passes its test, which antt computes.
--- Assumes nothing.
+-- `thresholds_10::index`: the 10-bit index passes its test, which antt computes.
 use lib.Dec.{lit<, lit≤}
 use Rattle.curve.specs.Curve.{dark, reaches}
 use Rattle.curve.proofs.Curve.{on_line_at, at_least}
 use Rattle.curve.proofs.Lights.{rule, system_at, index_at}
 use Rattle.curve.proofs.Tests.{index, bucket}
-use Rattle.thresholds_10.proofs.index.Statement.{statement}
-use Rattle.thresholds_10.proofs.index.Tie as tie
+use Rattle.thresholds_10.proofs.index.Goals as goal
 
-returns : tie.Need-returns
+pub returns : goal.returns
 unfolding bucket at_least dark on_line_at reaches
 returns c = index_at 10 5 (index (rule (system_at 10)) 32 _ (lit< tt) (lit≤ tt) (lit< tt) tt)
-
-pub index-spec : {M : Type 1} → statement M
-index-spec = tie.close (tie.spec returns)

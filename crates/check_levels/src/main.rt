@@ -5,11 +5,12 @@
 mod case;
 
 use case::Call;
+use std::io;
 
-fn main() {
+fn main(rt: HostRuntime) -> io::Result<()> {
     let mut buf = [0u8; 131072];
-    let n = check_records::read(b"codes", &mut buf);
-    case::compare(Call::OfCode, &buf[..n]).print(b"codes");
-    let m = check_records::read(b"differences", &mut buf);
-    case::compare(Call::OfDifference, &buf[..m]).print(b"differences");
+    let n = check_records::read(&rt, "codes", &mut buf)?;
+    case::compare(Call::OfCode, &buf[..n]).print(&rt, "codes")?;
+    let m = check_records::read(&rt, "differences", &mut buf)?;
+    case::compare(Call::OfDifference, &buf[..m]).print(&rt, "differences")
 }

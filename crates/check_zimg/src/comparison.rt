@@ -20,6 +20,7 @@ pub struct Comparison {
 }
 
 // Compares each sample of the records.
+#[tactic(auto, unfolding(crate::specs::Samples::compared_to))]
 pub fn compare(system: u32, records: &[u8]) -> Comparison
     ensures { result ≡ comparison_of system records.now }
 {
@@ -40,6 +41,7 @@ impl Comparison {
     };
 
     // One sample more.
+    #[tactic(auto, unfolding(crate::specs::Samples::compared))]
     fn with(self, system: u32, sample: Sample) -> Comparison
         ensures { result ≡ compared system self sample }
     {
@@ -53,6 +55,7 @@ impl Comparison {
     }
 
     // The end of the records, of which so many bytes are left: a sample that is cut off differs.
+    #[tactic(auto, unfolding(crate::specs::Samples::ended))]
     fn ended(self, left: usize) -> Comparison
         ensures { result ≡ ended self left }
     {

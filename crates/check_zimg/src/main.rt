@@ -7,31 +7,31 @@ mod nearness;
 mod sample;
 
 use check_records::Tally;
+use std::io;
+use std::rt::Files;
 
-fn main() {
-    check(1, b"system1");
-    check(2, b"system2");
-    check(3, b"system3");
-    check(4, b"system4");
+fn main(rt: HostRuntime) -> io::Result<()> {
+    check(&rt, 1, "system1")?;
+    check(&rt, 2, "system2")?;
+    check(&rt, 3, "system3")?;
+    check(&rt, 4, "system4")
 }
 
-fn check(system: u32, name: &[u8]) {
+fn check(rt: &(impl Files + Print), system: u32, name: &str) -> io::Result<()> {
     let mut buf = [0u8; 131072];
-    let n = check_records::read(name, &mut buf);
+    let n = check_records::read(rt, name, &mut buf)?;
     let found = comparison::compare(system, &buf[..n]);
     let words = found.words;
-    print(system, words.same, b"words");
-    print(system, words.near, b"words within one");
+    print(rt, system, words.same, "words")?;
+    print(rt, system, words.near, "words within one")?;
     let codes = found.codes;
-    print(system, codes.same, b"codes");
-    print(system, codes.near, b"codes within one");
-    print(system, found.clipped, b"samples unclipped");
+    print(rt, system, codes.same, "codes")?;
+    print(rt, system, codes.near, "codes within one")?;
+    print(rt, system, found.clipped, "samples unclipped")
 }
 
 // Writes a line such as 'system 1 words 24000 compared, 3 differ'.
-fn print(system: u32, tally: Tally, check: &[u8]) {
-    io::write_all(libc::STDOUT_FILENO, b"system ");
-    io::print_decimal(libc::STDOUT_FILENO, system as u64);
-    io::write_all(libc::STDOUT_FILENO, b" ");
-    tally.print(check);
+fn print(rt: &impl Print, system: u32, tally: Tally, check: &str) -> io::Result<()> {
+    print!(rt; "system {system} ")?;
+    tally.print(rt, check)
 }

@@ -17,6 +17,7 @@ impl Nearness {
     };
 
     // One comparison more.
+    #[tactic(auto, unfolding(crate::specs::Samples::nearer))]
     pub fn with(self, ours: u16, theirs: u16) -> Nearness
         ensures { result ≡ nearer self ours theirs }
     {
@@ -28,6 +29,7 @@ impl Nearness {
     }
 
     // A sample more whose three components we refuse, or which is cut off.
+    #[tactic(auto, unfolding(crate::specs::Samples::off))]
     pub fn off(self) -> Nearness
         ensures { result ≡ off self }
     {

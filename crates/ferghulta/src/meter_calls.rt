@@ -16,6 +16,7 @@ pub struct MeteredAnswer {
 }
 
 #[unsafe(no_mangle)]
+#[tactic(auto, using(block::proofs::Answerable::reading_answerable, crate::proofs::Entering::accepted_enters))]
 pub extern "C" fn ferghulta_read_metered(
     meter: Meter,
     bytes: &[u8],

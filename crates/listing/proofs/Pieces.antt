@@ -6,8 +6,7 @@ use Prim.Native.Nat.{ℕ, suc, ◌+◌, ◌≤◌}
 use native.Mathlib.Nat.{add-zero, zero-add, add-suc, suc-add, add_assoc}
 use lib.ListN.{length, drop, set, length-append}
 use lib.Seq.{sets, sets-eq, length-sets, length-take-le}
-use Rattle.io.specs.Counts.{IsPrefixLen}
-use Rattle.listing.specs.Inner.{Put}
+use Rattle.listing.specs.Inner.{Put, IsPrefixLen}
 
 sets_append : (a b l : List ℕ) (i : ℕ) → sets l i (a ++ b) ≡ sets (sets l i a) (i + length a) b
 sets_append [] b l i = ap (λ (k : ℕ). sets l k b) (sym (add-zero i))

@@ -4,22 +4,39 @@
 mod text;
 
 ghost use Rattle.std.specs.Prelude.{◌≡◌, ◌++◌, ◌+◌, ◌*◌, ◌≤◌, length, drop};
-ghost use Rattle.io.specs.Counts.{IsPrefixLen};
+ghost use Rattle.std.specs.Io.{ReadsAtMost};
 ghost use Rattle.systems.specs.Refusals.{refusal};
 ghost use Rattle.listing.specs.Listing.{decimal, clips_end, header_line, lines_to, refused_line, listing};
-ghost use Rattle.listing.specs.Inner.{Put, triple_at};
+ghost use Rattle.listing.specs.Inner.{Put, triple_at, IsPrefixLen};
 
 use block::{BlockRead, Header};
 use matrix::Clips;
+use std::io;
+use std::io::{Read, Write};
 use systems::{Codes, Refusal};
 
 // Lists the block that the input holds. Its first 46090 bytes count: one more than the longest block has.
-pub fn list(input: i32, output: i32) {
+pub fn list<R: Read, W: Write>(input: &mut R, output: &mut W) -> io::Result<()> {
     let mut bytes = [0u8; 46090];
-    let n = io::read_full(input, &mut bytes);
+    let n = fill(input, &mut bytes)?;
     let mut text = [0u8; 138324];
     let used = put_listing(&bytes[..n], &mut text);
-    io::write_all(output, &text[..used]);
+    output.write_all(&text[..used])
+}
+
+// Reads to the front of buf until it is full or the input ends, and answers how many bytes it read.
+fn fill<R: Read>(input: &mut R, buf: &mut [u8]) -> io::Result<usize>
+    ensures { ReadsAtMost result buf.new }
+{
+    let mut done = 0;
+    while done < buf.len() {
+        let n = input.read(&mut buf[done..])?;
+        if n == 0 {
+            break;
+        }
+        done += n;
+    }
+    Ok(done)
 }
 
 // Puts the listing of a block to the front of a buffer that has room for any, and answers with its length.

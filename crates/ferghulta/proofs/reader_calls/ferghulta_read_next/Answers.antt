@@ -13,8 +13,8 @@ returns-then-block-eq0-clause-value c =
     let read = c.ferghulta_read_block-block in
     let next = next_row (reader_of c.args.reader) c.args.bytes.now c.args.codes.now (sym (rw c.reader_of-r.ensures at c.in-To.ensures)) in
     ap (λ (k : StoredReader). next_of k read.result) c.stored_reader-next.ensures
-        ∙ accepted_next c.args.reader c.in-To.after (reading_answerable c.args.bytes.now (length c.args.codes.now)) read.ensures.value c.if-block-eq0.true
-        ∙ ap (next_answer c.args.reader) (sym next.0)
+    ∙ accepted_next c.args.reader c.in-To.after (reading_answerable c.args.bytes.now (length c.args.codes.now)) read.ensures.value c.if-block-eq0.true
+    ∙ ap (next_answer c.args.reader) (sym next.0)
 
 pub returns-then-block-eq0-clause-codes_after : goal.returns-then-block-eq0-clause-codes_after
 returns-then-block-eq0-clause-codes_after c =

@@ -1,35 +1,33 @@
 // Lists each input of data/, which reference/make_listings.py makes, as rowlist does, each under its file's name.
 #![tactic(auto)]
 
-use libc::STDOUT_FILENO;
+use std::rt::Files;
+use std::{fs, io};
 
-fn main() {
-    list(b"grey");
-    list(b"clipped");
-    list(b"low");
-    list(b"high");
-    list(b"both");
-    list(b"system2");
-    list(b"system3");
-    list(b"wide");
-    list(b"empty");
-    list(b"system");
-    list(b"word");
-    list(b"end");
-    list(b"count");
-    list(b"row");
-    list(b"after");
-    list(b"long");
+fn main(rt: HostRuntime) -> io::Result<()> {
+    list(&rt, "grey")?;
+    list(&rt, "clipped")?;
+    list(&rt, "low")?;
+    list(&rt, "high")?;
+    list(&rt, "both")?;
+    list(&rt, "system2")?;
+    list(&rt, "system3")?;
+    list(&rt, "wide")?;
+    list(&rt, "empty")?;
+    list(&rt, "system")?;
+    list(&rt, "word")?;
+    list(&rt, "end")?;
+    list(&rt, "count")?;
+    list(&rt, "row")?;
+    list(&rt, "after")?;
+    list(&rt, "long")
 }
 
-fn list(name: &[u8]) {
-    io::write_all(STDOUT_FILENO, name);
-    io::write_all(STDOUT_FILENO, b":\n");
-    let fd = os::open_read(name);
-    if fd < 0 {
-        os::fail(name);
-        return;
+// A file that does not open is named on standard error, and the others are still listed.
+fn list(rt: &(impl Files + Print + Eprint), name: &str) -> io::Result<()> {
+    println!(rt; "{name}:")?;
+    match fs::open(rt, name) {
+        Ok(mut file) => listing::list(&mut file, &mut io::writer(rt)),
+        Err(e) => eprintln!(rt; "{name}: {e}"),
     }
-    listing::list(fd, STDOUT_FILENO);
-    libc::close(fd);
 }

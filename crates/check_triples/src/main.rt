@@ -9,42 +9,44 @@ mod same;
 mod words;
 
 use matrix::Encoding;
+use std::io;
+use std::rt::Files;
 
-fn main() {
-    check_grid();
-    check_words();
-    check_codes();
-    check_refusals();
+fn main(rt: HostRuntime) -> io::Result<()> {
+    check_grid(&rt)?;
+    check_words(&rt)?;
+    check_codes(&rt)?;
+    check_refusals(&rt)
 }
 
-fn check_grid() {
+fn check_grid(rt: &(impl Files + Print)) -> io::Result<()> {
     let mut buf = [0u8; 262144];
-    let n = check_records::read(b"grid", &mut buf);
-    grid::compare(&buf[..n]).print(b"grid");
+    let n = check_records::read(rt, "grid", &mut buf)?;
+    grid::compare(&buf[..n]).print(rt, "grid")
 }
 
-fn check_words() {
+fn check_words(rt: &(impl Files + Print)) -> io::Result<()> {
     let mut buf = [0u8; 262144];
-    let n = check_records::read(b"words", &mut buf);
-    words::compare(Encoding::Plain, &buf[..n]).print(b"words");
-    let m = check_records::read(b"trimmed", &mut buf);
-    words::compare(Encoding::Trim, &buf[..m]).print(b"words trimmed");
+    let n = check_records::read(rt, "words", &mut buf)?;
+    words::compare(Encoding::Plain, &buf[..n]).print(rt, "words")?;
+    let m = check_records::read(rt, "trimmed", &mut buf)?;
+    words::compare(Encoding::Trim, &buf[..m]).print(rt, "words trimmed")?;
     // The answers with the guard before trim: those with a colour word beyond video data differ.
-    let k = check_records::read(b"formerly_trimmed", &mut buf);
-    words::compare(Encoding::Trim, &buf[..k]).print(b"words formerly trimmed");
+    let k = check_records::read(rt, "formerly_trimmed", &mut buf)?;
+    words::compare(Encoding::Trim, &buf[..k]).print(rt, "words formerly trimmed")
 }
 
-fn check_codes() {
-    let mut buf = [0u8; 524288];
-    let n = check_records::read(b"codes", &mut buf);
-    codes::compare(&buf[..n]).print(b"codes");
+fn check_codes(rt: &(impl Files + Alloc + Print)) -> io::Result<()> {
+    let mut buf = vec![in rt.alloc(); 0u8; 524288]?;
+    let n = check_records::read(rt, "codes", &mut buf)?;
+    codes::compare(&buf[..n]).print(rt, "codes")
 }
 
-fn check_refusals() {
-    let mut buf = io::buffer();
-    let n = check_records::read(b"words_refused", &mut buf);
-    words::compare(Encoding::Plain, &buf[..n]).print(b"words refused");
-    words::compare(Encoding::Trim, &buf[..n]).print(b"trimmed refused");
-    let m = check_records::read(b"codes_refused", &mut buf);
-    codes::compare(&buf[..m]).print(b"codes refused");
+fn check_refusals(rt: &(impl Files + Print)) -> io::Result<()> {
+    let mut buf = [0u8; 4096];
+    let n = check_records::read(rt, "words_refused", &mut buf)?;
+    words::compare(Encoding::Plain, &buf[..n]).print(rt, "words refused")?;
+    words::compare(Encoding::Trim, &buf[..n]).print(rt, "trimmed refused")?;
+    let m = check_records::read(rt, "codes_refused", &mut buf)?;
+    codes::compare(&buf[..m]).print(rt, "codes refused")
 }

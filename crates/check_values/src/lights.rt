@@ -24,6 +24,7 @@ pub fn compare_spans(records: &[u8]) -> Tally
 
 // Compares the code of each light with the record whose span holds it. In each system the spans have to follow one another from
 // light 0, so that each light is compared once.
+#[tactic(auto, unfolding(crate::specs::Vectors::lights_to, crate::specs::Vectors::first_at, crate::specs::Vectors::place_at))]
 pub fn compare_lights(records: &[u8]) -> Tally
     ensures { result ≡ ended (lights_to records.now (length records.now / 4)) (length records.now % 4) }
 {
@@ -42,6 +43,7 @@ pub fn compare_lights(records: &[u8]) -> Tally
 }
 
 // Compares the lights from `first` to the span's greatest with the place's code. Where the span begins elsewhere, each differs.
+#[tactic(auto, unfolding(crate::specs::Vectors::lights_tallied))]
 fn compare_span(place: Place, first: u32, span: Span, tally: Tally) -> Tally
     ensures { result ≡ span_tallied place first span tally }
 {

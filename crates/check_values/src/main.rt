@@ -10,28 +10,31 @@ mod refusals;
 mod restored;
 mod triple;
 
-fn main() {
-    check_spans();
-    check_signals();
-    check_restored();
-    refusals::compare().print(b"refusals");
+use std::io;
+use std::rt::Files;
+
+fn main(rt: HostRuntime) -> io::Result<()> {
+    check_spans(&rt)?;
+    check_signals(&rt)?;
+    check_restored(&rt)?;
+    refusals::compare().print(&rt, "refusals")
 }
 
-fn check_spans() {
-    let mut buf = io::large_buffer();
-    let n = check_records::read(b"spans", &mut buf);
-    lights::compare_lights(&buf[..n]).print(b"lights");
-    lights::compare_spans(&buf[..n]).print(b"spans");
+fn check_spans(rt: &(impl Files + Print)) -> io::Result<()> {
+    let mut buf = [0u8; 65536];
+    let n = check_records::read(rt, "spans", &mut buf)?;
+    lights::compare_lights(&buf[..n]).print(rt, "lights")?;
+    lights::compare_spans(&buf[..n]).print(rt, "spans")
 }
 
-fn check_signals() {
-    let mut buf = [0u8; 524288];
-    let n = check_records::read(b"signals", &mut buf);
-    quantised::compare(&buf[..n]).print(b"signals");
+fn check_signals(rt: &(impl Files + Alloc + Print)) -> io::Result<()> {
+    let mut buf = vec![in rt.alloc(); 0u8; 524288]?;
+    let n = check_records::read(rt, "signals", &mut buf)?;
+    quantised::compare(&buf[..n]).print(rt, "signals")
 }
 
-fn check_restored() {
-    let mut buf = io::large_buffer();
-    let n = check_records::read(b"restored", &mut buf);
-    restored::compare(&buf[..n]).print(b"restored");
+fn check_restored(rt: &(impl Files + Print)) -> io::Result<()> {
+    let mut buf = [0u8; 65536];
+    let n = check_records::read(rt, "restored", &mut buf)?;
+    restored::compare(&buf[..n]).print(rt, "restored")
 }

@@ -17,6 +17,7 @@ struct Case {
 }
 
 // Compares the answers for each record with its signal as R', as G' and as B'.
+#[tactic(auto, unfolding(crate::specs::Vectors::signals_to))]
 pub fn compare(records: &[u8]) -> Tally
     ensures { result ≡ ended (signals_to records.now (length records.now / 8)) (length records.now % 8) }
 {
@@ -42,6 +43,7 @@ fn case_at(records: &[u8], at: usize) -> Case
 
 impl Case {
     // The other two components are 0.5.
+    #[tactic(auto, unfolding(crate::specs::Vectors::signal_tallied))]
     fn compare(self, tally: Tally) -> Tally
         ensures { result ≡ signal_tallied self tally }
     {

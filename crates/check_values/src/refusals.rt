@@ -21,6 +21,7 @@ pub fn compare() -> Tally
 }
 
 // The codes next to the nominal range and the ends of all codes are refused with 6.
+#[tactic(auto, unfolding(crate::specs::Vectors::codes_refused))]
 fn compare_codes(system: u32, tally: Tally) -> Tally
     ensures { result ≡ codes_refused system tally }
 {
@@ -29,6 +30,7 @@ fn compare_codes(system: u32, tally: Tally) -> Tally
     compare_code(system, 65535, compare_code(system, 0, above))
 }
 
+#[tactic(auto, unfolding(crate::specs::Vectors::code_refused))]
 fn compare_code(system: u32, code: u16, tally: Tally) -> Tally
     ensures { result ≡ code_refused system code tally }
 {
@@ -41,6 +43,7 @@ fn compare_code(system: u32, code: u16, tally: Tally) -> Tally
 }
 
 // An unknown system is refused with 1, also where a code or a signal is wrong too.
+#[tactic(auto, unfolding(crate::specs::Vectors::system_refused))]
 fn compare_system(system: u32, tally: Tally) -> Tally
     ensures { result ≡ system_refused system tally }
 {

@@ -24,6 +24,7 @@ struct Bits {
 }
 
 // Compares the signals of each code with its record, with the code as R', as G' and as B'.
+#[tactic(auto, unfolding(crate::specs::Vectors::restored_to, crate::specs::Vectors::place_at))]
 pub fn compare(records: &[u8]) -> Tally
     ensures { result ≡ ended (restored_to records.now (length records.now / 4)) (length records.now % 4) }
 {
@@ -39,6 +40,7 @@ pub fn compare(records: &[u8]) -> Tally
 }
 
 // The other two components are black and white.
+#[tactic(auto, unfolding(crate::specs::Vectors::code_tallied))]
 fn compare_code(place: Place, bits: u32, tally: Tally) -> Tally
     ensures { result ≡ code_tallied place bits tally }
 {

@@ -1,13 +1,13 @@
 -- Up, down, and up and then down, over the two scales s and 4s of a Recommendation.
 -- Assumes nothing.
-use Prim.Native.Nat.{ℕ, zero, suc, ◌+◌, ◌*◌, ◌-◌, ◌≤◌, ◌<◌}
+use Prim.Native.Nat.{ℕ, zero, suc, ◌*◌, ◌-◌, ◌≤◌, ◌<◌}
 use mathlib.Core.Path.{◌≡◌, refl, sym, ap, ◌∙◌}
 use mathlib.Core.Bool.{Bool, true, false, not, ◌&&◌, false≢true}
 use mathlib.Core.Logic.{◌⊎◌, inl, inr}
 use mathlib.Core.List.{List, [], ◌∷◌, ◌++◌}
 use native.Mathlib.Omega.{arith}
 use lib.Dec.{ltb}
-use Rattle.exact.specs.Outcome.{accepted, refused, require}
+use Rattle.exact.specs.Outcome.{accepted, require}
 use Rattle.exact.specs.Whole.{INT}
 use Rattle.exact.proofs.Boolean.{each_of_three, is_false}
 use Rattle.exact.proofs.Order.{below_or_not}

@@ -6,7 +6,6 @@ use mathlib.Core.Bool.{Bool}
 use mathlib.Core.List.{List}
 use borrow.Author.Tests.{le-leb}
 use lib.ListN.{length, get_or}
-use Rattle.exact.specs.Outcome as outcome
 use Rattle.exact.specs.Outcome.{Outcome, refused}
 use Rattle.systems.specs.declared.Codes.{Codes}
 use Rattle.systems.specs.Refusals.{refusal}

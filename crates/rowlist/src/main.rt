@@ -2,6 +2,8 @@
 // sample, a line each; or the number of the refusal.
 #![tactic(auto)]
 
-fn main() {
-    listing::list(libc::STDIN_FILENO, libc::STDOUT_FILENO);
+use std::io;
+
+fn main(rt: HostRuntime) -> io::Result<()> {
+    listing::list(&mut rt.stdin(), &mut rt.stdout())
 }

@@ -1,0 +1,13 @@
+use Rattle.std.proofs.Common.{ap, ◌∙◌}
+use Rattle.check_records.proofs.Counting.{none_yet, one_more, all_counted}
+use Rattle.check_triples.specs.Cases.{codes_met}
+use Rattle.check_triples.proofs.codes.compare.Goals as goal
+
+pub loop-i-init : goal.loop-i-init
+loop-i-init c = none_yet _ _
+
+pub loop-i-preserved : goal.loop-i-preserved
+loop-i-preserved c = one_more c.loop-i.invariant c.loop-i-test.true (c.is_met.ensures ∙ ap codes_met c.case_at.ensures) c.with-tally.ensures
+
+pub returns : goal.returns
+returns c = all_counted c.loop-i.invariant _ c.loop-i-test.false c.ended.ensures

@@ -60,6 +60,7 @@ const LAST_ROW: u16 = MOST_ROWS - 1;
 const BIAS: u16 = 1 << 14;
 
 // Reads a block's codes into the front of a slice. Refused: in the walk 8, 1, 10, then 8, 9, 8 at each section; then 11, 6, 5.
+#[tactic(auto, using(crate::proofs::Reading::judge_refused, crate::proofs::Reading::slice_stays), unfolding(crate::specs::Read::header_of))]
 pub fn read_block(bytes: &[u8], codes: &mut [u16]) -> BlockRead
     ensures result_value { header_outcome result ≡ header_of bytes.now (length codes.old) }
     ensures codes_after { codes.new ≡ slice_after bytes.now codes.old }
@@ -76,6 +77,7 @@ pub fn read_block(bytes: &[u8], codes: &mut [u16]) -> BlockRead
 }
 
 // Judges a block by its bytes alone. Refused as in reading, but for 5.
+#[tactic(auto, using(crate::proofs::Walking::walk_accepted), unfolding(crate::specs::Read::judge))]
 pub fn judge(bytes: &[u8]) -> Judgement
     ensures { judged_outcome result ≡ judge bytes.now }
 {
@@ -102,6 +104,7 @@ impl Judged {
 }
 
 // Walks a block from the front: system, row number and sections. Refused: 8, 1, 10, then 8, 9, 8 at each section, then 11.
+#[tactic(auto, unfolding(crate::specs::Read::walk))]
 pub fn walk(bytes: &[u8]) -> Judgement
     ensures { judged_outcome result ≡ walk bytes.now }
 {
@@ -128,6 +131,7 @@ pub fn walk(bytes: &[u8]) -> Judgement
 }
 
 // The count of the three sections.
+#[tactic(auto, using(crate::proofs::Walking::section_said), unfolding(crate::specs::Read::sections))]
 fn sections(bytes: &[u8]) -> Counted
     ensures { count_outcome result ≡ sections bytes.now }
 {
@@ -203,6 +207,7 @@ pub fn put_byte(at: usize, x: u8, out: &mut [u8])
 }
 
 // Whether the words of all three sections are in a range.
+#[tactic(auto, using(crate::proofs::Ranges::within_by_sections))]
 pub fn all_in(range: Range, bytes: &[u8], samples: u16) -> bool
     requires { (size samples ≤ length bytes.now) × (samples ≤ 7680) }
     ensures { result ≡ within_to range (sample_at bytes.now samples) samples }
@@ -216,6 +221,7 @@ pub fn all_in(range: Range, bytes: &[u8], samples: u16) -> bool
 
 // Whether the words from a place on are in a range. Those outside are counted and no word ends the loop, so that several are tested
 // at a time.
+#[tactic(auto, using(crate::proofs::Ranges::range_more, crate::proofs::Ranges::misses_small), unfolding(crate::specs::Inner::in_range))]
 fn in_range(bytes: &[u8], at: usize, count: usize, range: Range) -> bool
     requires { (at + 2 * count ≤ length bytes.now) × (at ≤ 65536) × (count ≤ 7680) }
     ensures { result ≡ in_range range bytes.now at count }
@@ -233,6 +239,7 @@ fn in_range(bytes: &[u8], at: usize, count: usize, range: Range) -> bool
 }
 
 // Decodes the samples of a judged block into the front of a slice.
+#[tactic(auto, using(crate::proofs::Clipping::clipped_row, systems::proofs::Scales::scale_range))]
 fn decode(b: Judged, bytes: &[u8], codes: &mut [u16]) -> Header
     requires { Decodable bytes.now b.samples (length codes.old) }
     ensures value { result ≡ header b bytes.now }

@@ -1,4 +1,4 @@
-# Ferghulta: `make help` lists the targets. Whatever is built goes under target/.
+# Ferghulta: `make help` lists the targets. Whatever is built goes under target/; rt's own work is in crates/*/out/.
 
 PREFIX ?= /usr/local
 LIBDIR ?= $(PREFIX)/lib
@@ -23,8 +23,8 @@ NEED = RT='$(RT)' CC='$(CC)' CXX='$(CXX)' RUSTC='$(RUSTC)' sh needs.sh
 # The header alone has the version.
 VERSION := $(shell sed -n 's/^.define FERGHULTA_VERSION "\(.*\)"/\1/p' $(HEADER))
 
-# The archive is proved from these; rt itself knows which crates are out of date.
-SOURCES := crates.txt $(shell find crates -name '*.rt' -o -name '*.antt')
+# The archive is proved from these; rt itself knows which crates are out of date, and keeps copies of some in out/.
+SOURCES := crates.txt $(shell find crates -name out -prune -o \( -name '*.rt' -o -name '*.antt' \) -print)
 
 .PHONY: all test example example-rust check check-c check-header check-archive check-version check-docs figure bench \
         difftest difftest-long difftest-valgrind difftest-mutants fuzz needs install-needs install uninstall absolute clean help
@@ -34,7 +34,8 @@ all: $(ARCHIVE)
 # About three minutes the first time.
 $(ARCHIVE): $(SOURCES)
 	@$(NEED) archive
-	$(RT) staticlib ferghulta
+	cd crates/ferghulta && $(RT) lib
+	install -D -m 644 crates/ferghulta/out/libferghulta.a $@
 
 test:
 	@$(NEED) archive
@@ -163,7 +164,7 @@ absolute:
 	@case '$(PREFIX)' in /*) ;; *) echo 'PREFIX=$(PREFIX) is relative: give it from the root on'; exit 1 ;; esac
 	@case '$(LIBDIR)' in /*) ;; *) echo 'LIBDIR=$(LIBDIR) is relative: give it from the root on'; exit 1 ;; esac
 
-# The proofs and the archive stay: they take minutes. `rm -r target` removes them too.
+# The proofs and the archive stay: they take minutes. `rm -r target crates/*/out` removes them too.
 clean:
 	rm -rf $(BUILD)
 

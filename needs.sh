@@ -14,7 +14,7 @@ fuzzer_there() { [ -e "$($CLANG -print-file-name=libclang_rt.fuzzer-x86_64.a 2>/
 # Each line: what it is for | how it is looked for | its name | a Debian package, or - | where else it comes from
 table() {
     cat <<END
-archive|command_there $RT|$RT|-|the Rattle kit rattle-kit-5b; "rt version" tells which one is there
+archive|command_there $RT|$RT|-|the Rattle kit rattle-kit-13f; "rt version" tells which one is there
 c|command_there $CC|$CC|gcc libc6-dev|
 c|command_there $CXX|$CXX|g++|
 rust|rustc_there|rustc 1.82 or newer|-|from rustup, or the distribution where its version is new enough

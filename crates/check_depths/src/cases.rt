@@ -73,8 +73,8 @@ fn is_met(case: Case, bytes: &[u8]) -> bool
     requires { case.length ≤ length bytes.now }
     ensures { result ≡ met case bytes.now }
 {
-    let mut lent = io::large_buffer();
-    let mut due = io::large_buffer();
+    let mut lent = [0u8; 65536];
+    let mut due = [0u8; 65536];
     let length = case.length as usize;
     let room = case.room as usize;
     is_answered(
@@ -98,7 +98,7 @@ fn is_answered(case: Case, block: &[u8], new: &[u8], lent: &mut [u8], due: &mut 
     if new.len() > room {
         return false;
     }
-    bytes::copy(new, due);
+    due[..new.len()].copy_from_slice(new);
     let answer = depth::change_depth(case.target, block, lent);
     is_due(answer, case.refusal) & begin_alike(lent, due, room)
 }

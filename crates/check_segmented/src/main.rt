@@ -7,24 +7,25 @@ mod moving;
 mod rows;
 
 use segmented::Order;
+use std::io;
 
-fn main() {
-    check_lengths();
-    check_rows(b"rows_1", b"rows of 1 byte:");
-    check_rows(b"rows_2", b"rows of 2 bytes:");
-    check_rows(b"rows_3", b"rows of 3 bytes:");
-    check_rows(b"rows_5", b"rows of 5 bytes:");
+fn main(rt: HostRuntime) -> io::Result<()> {
+    check_lengths(&rt)?;
+    check_rows(&rt, "rows_1", "rows of 1 byte:")?;
+    check_rows(&rt, "rows_2", "rows of 2 bytes:")?;
+    check_rows(&rt, "rows_3", "rows of 3 bytes:")?;
+    check_rows(&rt, "rows_5", "rows of 5 bytes:")
 }
 
-fn check_lengths() {
-    let mut buf = io::buffer();
-    let n = check_records::read(b"lengths", &mut buf);
-    lengths::compare(&buf[..n], Order::Segmented).print(b"lengths, to segmented:");
-    lengths::compare(&buf[..n], Order::Progressive).print(b"lengths, to progressive:");
+fn check_lengths(rt: &HostRuntime) -> io::Result<()> {
+    let mut buf = [0u8; 4096];
+    let n = check_records::read(rt, "lengths", &mut buf)?;
+    lengths::compare(&buf[..n], Order::Segmented).print(rt, "lengths, to segmented:")?;
+    lengths::compare(&buf[..n], Order::Progressive).print(rt, "lengths, to progressive:")
 }
 
-fn check_rows(file: &[u8], check: &[u8]) {
+fn check_rows(rt: &HostRuntime, file: &str, check: &str) -> io::Result<()> {
     let mut buf = [0u8; 16384];
-    let n = check_records::read(file, &mut buf);
-    rows::compare(&buf[..n]).print(check);
+    let n = check_records::read(rt, file, &mut buf)?;
+    rows::compare(&buf[..n]).print(rt, check)
 }

@@ -10,7 +10,7 @@ use Rattle.exact.specs.Whole.{INT}
 use Rattle.systems.specs.declared.System.{System}
 use Rattle.systems.specs.declared.System.TheVariants.{Bt709Bits8, Bt709Bits10, Bt2020Bits10, Bt2020Bits12}
 use Rattle.systems.specs.Systems.{scale, transfer}
-use Rattle.curve.specs.Curve.{full_light, linear, reaches, code_of, code}
+use Rattle.curve.specs.Curve.{full_light, linear, reaches, code}
 use Rattle.curve.proofs.Tests.{Rule}
 use Rattle.curve.proofs.Curve.{at_least, Edge}
 use Rattle.curve.proofs.Curve as curve

@@ -67,6 +67,7 @@ fn put_samples<'a>(
 }
 
 // The words of sample i.
+#[tactic(auto, unfolding(crate::specs::Row::sample_words))]
 fn put_sample<'a>(
     y: System,
     boundaries: &'a [u16],

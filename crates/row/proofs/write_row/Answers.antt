@@ -1,4 +1,5 @@
--- `row::write_row`: in each arm the head and then the samples are stored, and that makes the block.
+-- `row::write_row`: in each arm the head and then the samples are stored,
+-- and that makes the block.
 use Rattle.row.proofs.Written.{row_written}
 use Rattle.row.proofs.write_row.Goals as goal
 

@@ -5,27 +5,38 @@
 mod cases;
 mod slice;
 
-fn main() {
-    check_cases();
-    check_clipped();
+ghost use Rattle.std.specs.Prelude.{◌≡◌, length};
+
+use std::io;
+
+fn main(rt: HostRuntime) -> io::Result<()> {
+    check_cases(&rt)?;
+    check_clipped(&rt)
 }
 
-fn check_cases() {
-    let mut buf = [0u8; 524288];
-    let n = check_records::read(b"cases", &mut buf);
+// So many zeros, to read a file into.
+fn zeros<const N: usize>() -> [u8; N]
+    ensures { N ≡ length result }
+{
+    [0; N]
+}
+
+fn check_cases(rt: &HostRuntime) -> io::Result<()> {
+    let mut buf = zeros::<524288>();
+    let n = check_records::read(rt, "cases", &mut buf)?;
     let data = &buf[..n];
-    cases::compare(data, 0).print(b"accepted:");
-    cases::compare(data, 1).print(b"refused 1:");
-    cases::compare(data, 5).print(b"refused 5:");
-    cases::compare(data, 6).print(b"refused 6:");
-    cases::compare(data, 8).print(b"refused 8:");
-    cases::compare(data, 9).print(b"refused 9:");
-    cases::compare(data, 10).print(b"refused 10:");
-    cases::compare(data, 11).print(b"refused 11:");
+    cases::compare(data, 0).print(rt, "accepted:")?;
+    cases::compare(data, 1).print(rt, "refused 1:")?;
+    cases::compare(data, 5).print(rt, "refused 5:")?;
+    cases::compare(data, 6).print(rt, "refused 6:")?;
+    cases::compare(data, 8).print(rt, "refused 8:")?;
+    cases::compare(data, 9).print(rt, "refused 9:")?;
+    cases::compare(data, 10).print(rt, "refused 10:")?;
+    cases::compare(data, 11).print(rt, "refused 11:")
 }
 
-fn check_clipped() {
-    let mut buf = [0u8; 524288];
-    let n = check_records::read(b"clipped", &mut buf);
-    cases::compare(&buf[..n], 0).print(b"accepted, clipped:");
+fn check_clipped(rt: &HostRuntime) -> io::Result<()> {
+    let mut buf = zeros::<524288>();
+    let n = check_records::read(rt, "clipped", &mut buf)?;
+    cases::compare(&buf[..n], 0).print(rt, "accepted, clipped:")
 }

@@ -44,6 +44,7 @@ pub struct MeteredRead {
 }
 
 impl Meter {
+    #[tactic(auto, unfolding(crate::specs::Meter::total))]
     pub fn new() -> Meter
         ensures { result ≡ empty }
     {
@@ -76,6 +77,7 @@ impl Meter {
     }
 
     // The meter after a reading that was accepted with these clips. Whoever has read a block by itself enters its row so.
+    #[tactic(auto, using(crate::proofs::Turns::kept_whole))]
     pub fn with_row(self, clips: Clips) -> Meter
         ensures { result ≡ entered (kept self) clips }
     {
@@ -94,6 +96,7 @@ impl Meter {
     }
 
     // The meter itself where its parts agree, else one that holds no row: a caller in C may have kept anything.
+    #[tactic(auto, unfolding(crate::specs::Meter::total))]
     fn kept(self) -> Meter
         ensures { result ≡ kept self }
     {
@@ -113,6 +116,7 @@ impl Meter {
         }
     }
 
+    #[tactic(auto, using(crate::proofs::Turns::in_turn_lem, crate::proofs::Turns::at_most_64), unfolding(crate::specs::Meter::whole))]
     fn is_whole(self) -> bool
         ensures { result ≡ whole self }
     {
@@ -153,6 +157,7 @@ fn in_turn(place: u32, rows: u32) -> bool
 }
 
 // The sum over the rows.
+#[tactic(auto, using(crate::proofs::Sums::total_next), unfolding(crate::specs::Meter::total))]
 fn total(counts: Counts, rows: u32) -> u32
     requires { rows ≤ 64 }
     ensures { result ≡ total (take rows counts) }

@@ -41,3 +41,15 @@ returns c = elim (row_of c.args.x c.weights-w.result c.weights-w.ensures) [
   | inl e ↦ rw (c.fixed-green_cb.ensures, c.fixed-green_cr.ensures, c.fixed.ensures, c.fixed-2.ensures, e.0, e.1) refl
   | inr e ↦ rw (c.fixed-green_cb.ensures, c.fixed-green_cr.ensures, c.fixed.ensures, c.fixed-2.ensures, e.0, e.1) refl
 ]
+
+pub overflow_sub-result : goal.overflow_sub-result
+overflow_sub-result c = elim (row_of c.args.x c.weights-w.result c.weights-w.ensures) [
+  | inl e ↦ rw (c.fixed-green_cb.ensures, e.1) record { sfits = lit< tt }
+  | inr e ↦ rw (c.fixed-green_cb.ensures, e.1) record { sfits = lit< tt }
+]
+
+pub overflow_sub-result-2 : goal.overflow_sub-result-2
+overflow_sub-result-2 c = elim (row_of c.args.x c.weights-w.result c.weights-w.ensures) [
+  | inl e ↦ rw (c.fixed-green_cr.ensures, e.1) record { sfits = lit< tt }
+  | inr e ↦ rw (c.fixed-green_cr.ensures, e.1) record { sfits = lit< tt }
+]

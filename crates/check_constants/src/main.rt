@@ -6,21 +6,32 @@ mod codes;
 mod fields;
 mod words;
 
-fn main() {
-    check_words(b"words", b"words");
-    check_codes(b"codes", b"codes");
-    check_words(b"words_refused", b"words refused");
-    check_codes(b"codes_refused", b"codes refused");
+ghost use Rattle.std.specs.Prelude.{◌≡◌, length};
+
+use std::io;
+
+fn main(rt: HostRuntime) -> io::Result<()> {
+    check_words(&rt, "words", "words")?;
+    check_codes(&rt, "codes", "codes")?;
+    check_words(&rt, "words_refused", "words refused")?;
+    check_codes(&rt, "codes_refused", "codes refused")
 }
 
-fn check_words(file: &[u8], check: &[u8]) {
-    let mut buf = [0u8; 262144];
-    let n = check_records::read(file, &mut buf);
-    words::compare(&buf[..n]).print(check);
+// So many zeros, to read a file into.
+fn zeros<const N: usize>() -> [u8; N]
+    ensures { N ≡ length result }
+{
+    [0; N]
 }
 
-fn check_codes(file: &[u8], check: &[u8]) {
-    let mut buf = [0u8; 262144];
-    let n = check_records::read(file, &mut buf);
-    codes::compare(&buf[..n]).print(check);
+fn check_words(rt: &HostRuntime, file: &str, check: &str) -> io::Result<()> {
+    let mut buf = zeros::<262144>();
+    let n = check_records::read(rt, file, &mut buf)?;
+    words::compare(&buf[..n]).print(rt, check)
+}
+
+fn check_codes(rt: &HostRuntime, file: &str, check: &str) -> io::Result<()> {
+    let mut buf = zeros::<262144>();
+    let n = check_records::read(rt, file, &mut buf)?;
+    codes::compare(&buf[..n]).print(rt, check)
 }

@@ -115,7 +115,7 @@ fn expect_block(block: &[u8], due: &mut [u8])
     ensures { due.new ≡ expected block.now due.old }
 {
     if block.len() <= due.len() {
-        bytes::copy(block, due);
+        due[..block.len()].copy_from_slice(block);
     }
 }
 

@@ -28,7 +28,7 @@ module _ (n : Range) (v : ℤ) (o : n.low ≤ n.high) where
   }
 
   component_sum : ((beyond n v).low + (beyond n v).high ≡ formerly_beyond n v) × (formerly_beyond n v ≤ 1)
-  component_sum = by_tests (lt_z v (pos n.low)) (lt_z (pos n.high) v) refl refl
+  component_sum = let k = by_tests (lt_z v (pos n.low)) (lt_z (pos n.high) v) refl refl in (omega (arith, k.0), k.1)
     where
       by_tests : (l h : Bool) → lt_z v (pos n.low) ≡ l → lt_z (pos n.high) v ≡ h →
           let k : ℕ = elim l [ true ↦ 1 | false ↦ elim h [ true ↦ 1 | false ↦ 0 ] ] in

@@ -3,8 +3,9 @@
 
 mod text;
 
-ghost use Rattle.std.specs.Prelude.{◌≡◌, ◌++◌, ◌+◌, ◌*◌, ◌≤◌, length, drop};
+ghost use Rattle.std.specs.Prelude.{◌≡◌, ◌++◌, ◌+◌, ◌*◌, ◌≤◌, length, take, drop, IfSome, IfOk, OnOk};
 ghost use Rattle.std.specs.Io.{ReadsAtMost};
+ghost use Rattle.std.specs.Io.KnownBytes.{Appends};
 ghost use Rattle.systems.specs.Refusals.{refusal};
 ghost use Rattle.listing.specs.Listing.{decimal, clips_end, header_line, lines_to, refused_line, listing};
 ghost use Rattle.listing.specs.Inner.{Put, triple_at, IsPrefixLen};
@@ -16,7 +17,10 @@ use std::io::{Read, Write};
 use systems::{Codes, Refusal};
 
 // Lists the block that the input holds. Its first 46090 bytes count: one more than the longest block has.
-pub fn list<R: Read, W: Write>(input: &mut R, output: &mut W) -> io::Result<()> {
+pub fn list<R: Read, W: Write>(input: &mut R, output: &mut W) -> io::Result<()>
+    ensures { OnOk result (IfSome (R.remaining input.old)
+        (λ xs. Appends (W.contents output.old) (W.contents output.new) (listing (take 46090 xs)))) }
+{
     let mut bytes = [0u8; 46090];
     let n = fill(input, &mut bytes)?;
     let mut text = [0u8; 138324];
@@ -26,7 +30,8 @@ pub fn list<R: Read, W: Write>(input: &mut R, output: &mut W) -> io::Result<()> 
 
 // Reads to the front of buf until it is full or the input ends, and answers how many bytes it read.
 fn fill<R: Read>(input: &mut R, buf: &mut [u8]) -> io::Result<usize>
-    ensures { ReadsAtMost result buf.new }
+    ensures in_bounds { ReadsAtMost result buf.new }
+    ensures bytes { IfOk result (λ n. IfSome (R.remaining input.old) (λ xs. take n buf.new ≡ take (length buf.old) xs)) }
 {
     let mut done = 0;
     while done < buf.len() {

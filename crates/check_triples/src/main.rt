@@ -8,6 +8,8 @@ mod grid;
 mod same;
 mod words;
 
+ghost use Rattle.std.specs.Prelude.{◌≡◌, length};
+
 use matrix::Encoding;
 use std::io;
 use std::rt::Files;
@@ -36,8 +38,8 @@ fn check_words(rt: &(impl Files + Print)) -> io::Result<()> {
     words::compare(Encoding::Trim, &buf[..k]).print(rt, "words formerly trimmed")
 }
 
-fn check_codes(rt: &(impl Files + Alloc + Print)) -> io::Result<()> {
-    let mut buf = vec![in rt.alloc(); 0u8; 524288]?;
+fn check_codes(rt: &(impl Files + Print)) -> io::Result<()> {
+    let mut buf = zeros::<524288>();
     let n = check_records::read(rt, "codes", &mut buf)?;
     codes::compare(&buf[..n]).print(rt, "codes")
 }
@@ -49,4 +51,11 @@ fn check_refusals(rt: &(impl Files + Print)) -> io::Result<()> {
     words::compare(Encoding::Trim, &buf[..n]).print(rt, "trimmed refused")?;
     let m = check_records::read(rt, "codes_refused", &mut buf)?;
     codes::compare(&buf[..m]).print(rt, "codes refused")
+}
+
+// So many zeros, to read a file into.
+fn zeros<const N: usize>() -> [u8; N]
+    ensures { N ≡ length result }
+{
+    [0; N]
 }

@@ -10,6 +10,8 @@ mod refusals;
 mod restored;
 mod triple;
 
+ghost use Rattle.std.specs.Prelude.{◌≡◌, length};
+
 use std::io;
 use std::rt::Files;
 
@@ -27,8 +29,8 @@ fn check_spans(rt: &(impl Files + Print)) -> io::Result<()> {
     lights::compare_spans(&buf[..n]).print(rt, "spans")
 }
 
-fn check_signals(rt: &(impl Files + Alloc + Print)) -> io::Result<()> {
-    let mut buf = vec![in rt.alloc(); 0u8; 524288]?;
+fn check_signals(rt: &(impl Files + Print)) -> io::Result<()> {
+    let mut buf = zeros::<524288>();
     let n = check_records::read(rt, "signals", &mut buf)?;
     quantised::compare(&buf[..n]).print(rt, "signals")
 }
@@ -37,4 +39,11 @@ fn check_restored(rt: &(impl Files + Print)) -> io::Result<()> {
     let mut buf = [0u8; 65536];
     let n = check_records::read(rt, "restored", &mut buf)?;
     restored::compare(&buf[..n]).print(rt, "restored")
+}
+
+// So many zeros, to read a file into.
+fn zeros<const N: usize>() -> [u8; N]
+    ensures { N ≡ length result }
+{
+    [0; N]
 }

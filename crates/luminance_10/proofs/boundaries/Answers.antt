@@ -1,17 +1,12 @@
--- The 10-bit table passes its test, which antt computes.
--- Assumes nothing.
-use mathlib.Core.Path.{refl}
+-- `luminance_10::boundaries`: the 10-bit table passes its test, which antt computes.
+use Rattle.std.proofs.Common.{refl}
 use Rattle.systems.specs.declared.System.TheVariants.{Bt2020Bits10}
 use Rattle.curve.specs.Curve.{dark, reaches}
 use Rattle.curve.proofs.Curve.{on_line_at, at_least}
 use Rattle.curve.proofs.Tests.{boundaries, boundary}
 use Rattle.luminance.proofs.Luminances.{rule}
-use Rattle.luminance_10.proofs.boundaries.Statement.{statement}
-use Rattle.luminance_10.proofs.boundaries.Tie as tie
+use Rattle.luminance_10.proofs.boundaries.Goals as goal
 
-returns : tie.Need-returns
+pub returns : goal.returns
 unfolding boundary at_least dark on_line_at reaches
 returns c = boundaries (rule Bt2020Bits10) _ refl tt
-
-pub boundaries-spec : {M : Type 1} → statement M
-boundaries-spec = tie.close (tie.spec returns)

@@ -1,17 +1,12 @@
--- The 12-bit index of lights passes its test at the scale of luminance, which antt computes.
--- Assumes nothing.
+-- `luminance_12::index`: the 12-bit index of lights passes its test at the scale of luminance, which antt computes.
 use lib.Dec.{lit<, lit≤}
 use Rattle.systems.specs.declared.System.TheVariants.{Bt2020Bits12}
 use Rattle.curve.specs.Curve.{dark, reaches}
 use Rattle.curve.proofs.Curve.{on_line_at, at_least}
 use Rattle.curve.proofs.Tests.{index, bucket}
 use Rattle.luminance.proofs.Luminances.{rule}
-use Rattle.luminance_12.proofs.index.Statement.{statement}
-use Rattle.luminance_12.proofs.index.Tie as tie
+use Rattle.luminance_12.proofs.index.Goals as goal
 
-returns : tie.Need-returns
+pub returns : goal.returns
 unfolding bucket at_least dark on_line_at reaches
 returns c = index (rule Bt2020Bits12) 80000 _ (lit< tt) (lit≤ tt) (lit< tt) tt
-
-pub index-spec : {M : Type 1} → statement M
-index-spec = tie.close (tie.spec returns)

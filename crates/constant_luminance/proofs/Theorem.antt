@@ -30,16 +30,9 @@ use Rattle.constant_luminance.proofs.codes_of_words.Met as decode-met
 use Rattle.constant_luminance.proofs.Claims.{Claimed}
 use Rattle.constant_luminance.proofs.Card.{Encodes, by_words_of_lights, Decodes, by_codes_of_words, card}
 use Rattle.constant_luminance.proofs.Faithful.{Faithful, claimed}
+use Rattle.constant_luminance.proofs.Numbers.{named_answerable}
 
 -- ---- every call comes to something
-
-named_answerable : (n : ℕ) → Answerable (named n)
-named_answerable n = by_tests (eqb n 5) (eqb n 6)
-  where
-    by_tests : (a b : Bool) → Answerable {A = ConstantSystem} (elim a [ true ↦ accepted Bits10 | false ↦ elim b [ true ↦ accepted Bits12 | false ↦ refused 1 ] ])
-    by_tests true b = values Bits10
-    by_tests false true = values Bits12
-    by_tests false false = refusing refusal.System
 
 pub words_answerable : (n : ℕ) (l : Lights) → Answerable (words_of_lights n l)
 words_answerable n l = followed (named_answerable n) (λ y. values (words_at (base y) l))

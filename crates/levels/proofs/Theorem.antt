@@ -24,7 +24,7 @@ module _ (g : Gauge) (some : 0 < g.steps) where
   gives : (y : System) (d : ℕ) (l : Level) → level_by g (number y) d ≡ accepted l → Solves (level_ratio g (scale y) d) l
   gives y d l e =
       let q = level_ratio g (scale y) d in
-      subst (Solves q) (required (within (video_data y) d) 6 (divided q) l (rw (named_number y) at e)).1 (solves q (mul-pos some (scale_range y).0))
+      subst (Solves q) (required _ 6 (divided q) l (rw (named_number y) at e)).1 (solves q (mul-pos some (scale_range y).0))
 
   claimed : Claimed g (level_by g)
   claimed = record {

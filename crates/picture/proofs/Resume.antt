@@ -19,7 +19,7 @@ use Rattle.picture.proofs.Claims.{Sized, ProperAt}
 proper_sized : (o : Opened) (b : ℕ) → proper o b ≡ true → Sized o b
 unfolding proper
 proper_sized o b e =
-    let three = each_of_three (width_ok o.width && height_ok o.height) (leb o.rows o.height) (eqb (o.rows * size o.width) b) e in
+    let three = each_of_three (width_ok o.width && height_ok o.height) (leb o.rows o.height) _ e in
     let two = each_of_three true (width_ok o.width) (height_ok o.height) three.0 in
     let w = in_range_lem (record { low = 1; high = 7680 }) o.width two.1 in
     let h = in_range_lem (record { low = 1; high = 4320 }) o.height two.2 in

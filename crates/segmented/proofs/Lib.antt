@@ -1,5 +1,6 @@
 pub mod Claims
 pub mod Card
+pub mod Segments
 pub mod Lines
 pub mod Rows
 pub mod Loop

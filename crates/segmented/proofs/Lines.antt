@@ -9,21 +9,12 @@ use Rattle.exact.proofs.Order.{below_or_not}
 use Rattle.segmented.specs.declared.Order.{Order}
 use Rattle.segmented.specs.declared.Order.TheVariants as order
 use Rattle.segmented.specs.Segmented.{total_line, row_at, place_of, source}
+use Rattle.segmented.proofs.Segments.{line_at, first_segment, second_segment}
 use Rattle.segmented.proofs.Claims.{other}
 
 -- the first and the last line of each segment, as the Recommendation has them
 pub segments_end : (total_line 1 ≡ 21) × (total_line 1079 ≡ 560) × (total_line 2 ≡ 584) × (total_line 1080 ≡ 1123)
 segments_end = (refl, refl, refl, refl)
-
--- the total line at a place
-abbrev line_at : ℕ → ℕ
-line_at p = total_line (row_at p + 1)
-
-first_segment : (p : ℕ) → p < 540 → line_at p ≡ 21 + p
-first_segment p h = simp (lt-ltb p 540 h, eq-eqb ((2 * p + 1) % 2) 1 (omega arith)) (omega arith)
-
-second_segment : (p : ℕ) → 540 ≤ p → line_at p ≡ 584 + (p - 540)
-second_segment p h = simp (le-ltb p 540 h, ne_eqb ((2 * (p - 540) + 1 + 1) % 2) 1 (λ e. omega arith)) (omega arith)
 
 pub total_lines_rise : (p q : ℕ) → p < q → line_at p < line_at q
 total_lines_rise p q h = go (below_or_not p 540) (below_or_not q 540)

@@ -49,8 +49,9 @@ module _ (c : goal.After-floor-whole) where
   product_read : to_z w64 (of_z w64 (to_z w64 (of_z w64 f) *ℤ to_z w64 (of_z w64 b))) ≡ shr_z z k *ℤ pos k
   product_read = rw (whole_read, bottom_read) (reads_back (shr_z z k *ℤ pos k) product_small)
 
-  left : to_z w64 (of_z w64 z) -ℤ to_z w64 (of_z w64 (to_z w64 (of_z w64 f) *ℤ to_z w64 (of_z w64 b))) ≡ pos rest
-  left = rw (top_read, product_read) (rest_is q (positive b c.requires.1).1)
+  -- what is left, as the code computes it
+  abbrev left : ℤ
+  left = to_z w64 (of_z w64 z) -ℤ to_z w64 (of_z w64 (to_z w64 (of_z w64 f) *ℤ to_z w64 (of_z w64 b)))
 
   rest_read : to_z w64 (of_z w64 (pos rest)) ≡ pos rest
   rest_read = reads_back (pos rest) (omega (arith, below, c.requires.2))
@@ -59,14 +60,19 @@ pub overflow_mul-result : goal.overflow_mul-result
 overflow_mul-result c = rw (whole_read c, bottom_read c) (fits_i64 (shr_z (z c) (k c) *ℤ pos (k c)) (product_small c))
 
 pub overflow_sub-result : goal.overflow_sub-result
-overflow_sub-result c = rw (left c) (fits_i64 (pos (rest c)) (omega (arith, below c, c.requires.2)))
+overflow_sub-result c =
+    let is : left c ≡ pos (rest c) = rw (top_read c, product_read c) (rest_is (q c) (positive (b c) c.requires.1).1) in
+    rw is (fits_i64 (pos (rest c)) (omega (arith, below c, c.requires.2)))
 
 pub overflow_cast-result-2 : goal.overflow_cast-result-2
-overflow_cast-result-2 c = rw (left c, rest_read c) (tt, record { fits = omega (arith, below c, c.requires.2) })
+overflow_cast-result-2 c =
+    let is : left c ≡ pos (rest c) = rw (top_read c, product_read c) (rest_is (q c) (positive (b c) c.requires.1).1) in
+    rw (is, rest_read c) (tt, record { fits = omega (arith, below c, c.requires.2) })
 
 pub returns : goal.returns
 unfolding divided
 returns c =
     let millivolts = ap (λ (x : ℤ). to_z w32 (of_z w32 x)) (whole_read c) ∙ to_z-of_z w32 (shr_z (z c) (k c)) (whole_fits c) in
-    let remainder = ap nat_abs (ap (λ (x : ℤ). to_z w64 (of_z w64 x)) (left c) ∙ rest_read c) in
+    let is : left c ≡ pos (rest c) = rw (top_read c, product_read c) (rest_is (q c) (positive (b c) c.requires.1).1) in
+    let remainder = ap nat_abs (ap (λ (x : ℤ). to_z w64 (of_z w64 x)) is ∙ rest_read c) in
     λ i. record { millivolts = millivolts i; remainder = remainder i }

@@ -25,21 +25,20 @@ module _ (z b : ℤ) (fits : FitsSigned w64 z) (k : ℕ) (is : b ≡ pos k) (abo
   test_read : (t : Bool) → lt_z (to_z w64 (of_z w64 (rem_z (to_z w64 (of_z w64 z)) (to_z w64 (of_z w64 b))))) (pos 0) ≡ t → lt_z (rem_z z (pos k)) (pos 0) ≡ t
   test_read t e = ap (λ (r : ℤ). lt_z r (pos 0)) (sym rest_read) ∙ e
 
-  less_small : nat_abs (quot_z z (pos k) -ℤ pos 1) < 2 ^ 63
-  less_small = omega (arith, nat_abs_less (quot_z z (pos k)) (pos 1), small)
-
-  one_less : lt_z (to_z w64 (of_z w64 (rem_z (to_z w64 (of_z w64 z)) (to_z w64 (of_z w64 b))))) (pos 0) ≡ true
-      → to_z w64 (of_z w64 (to_z w64 (of_z w64 (quot_z (to_z w64 (of_z w64 z)) (to_z w64 (of_z w64 b)))) -ℤ pos 1)) ≡ shr_z z k
-  one_less e = rw quotient_read (reads_back (quot_z z (pos k) -ℤ pos 1) less_small ∙ one_down z k above (test_read true e))
-
   as_is : lt_z (to_z w64 (of_z w64 (rem_z (to_z w64 (of_z w64 z)) (to_z w64 (of_z w64 b))))) (pos 0) ≡ false
       → to_z w64 (of_z w64 (quot_z (to_z w64 (of_z w64 z)) (to_z w64 (of_z w64 b)))) ≡ shr_z z k
   as_is e = quotient_read ∙ rounded_down z k above (test_read false e)
 
 pub returns-then-top-bottom-lt0 : goal.returns-then-top-bottom-lt0
 returns-then-top-bottom-lt0 c =
-    let p = positive c.args.bottom c.requires.1 in
-    one_less c.args.top c.args.bottom c.ranges.top (nat_abs c.args.bottom) p.0 p.1 c.requires.0 c.requires.2 c.if-top-bottom-lt0.true
+    let z = c.args.top in
+    let b = c.args.bottom in
+    let k = nat_abs b in
+    let p = positive b c.requires.1 in
+    let less = quot_z z (pos k) -ℤ pos 1 in
+    let less_small : nat_abs less < 2 ^ 63 = omega (arith, nat_abs_less (quot_z z (pos k)) (pos 1), small z b c.ranges.top k p.0 p.1 c.requires.0 c.requires.2) in
+    rw (quotient_read z b c.ranges.top k p.0 p.1 c.requires.0 c.requires.2)
+    (reads_back less less_small ∙ one_down z k p.1 (test_read z b c.ranges.top k p.0 p.1 c.requires.0 c.requires.2 true c.if-top-bottom-lt0.true))
 
 pub returns : goal.returns
 returns c =

@@ -27,7 +27,7 @@ use Rattle.ferghulta.proofs.picture_calls.ferghulta_row.Statement as row-stateme
 use Rattle.ferghulta.proofs.picture_calls.ferghulta_row.Met as row-met
 use Rattle.ferghulta.proofs.picture_calls.ferghulta_close.Statement as close-statement
 use Rattle.ferghulta.proofs.picture_calls.ferghulta_close.Met as close-met
-use Rattle.ferghulta.proofs.picture_calls.ferghulta_total_bytes.Statement as total_Statement
+use Rattle.ferghulta.proofs.picture_calls.ferghulta_total_bytes.Statement as total-statement
 use Rattle.ferghulta.proofs.picture_calls.ferghulta_total_bytes.Met as total-met
 use Rattle.ferghulta.proofs.calls.ferghulta_read_block.Statement as read-statement
 use Rattle.ferghulta.proofs.calls.ferghulta_read_block.Met as read-met
@@ -71,7 +71,7 @@ pub record Theorem : Type 3 where
   pub lists : {cs : List Call} {ans : List Answer} {ls : List Lent} {l : StoredPicture} → History card cs ans ls l → Demanded card fresh cs ans ls (state_at l)
   pub any : {k l : StoredPicture} {cs : List Call} {ans : List Answer} {ls : List Lent} → Ran card k cs ans ls l → Demanded card (state_at k) cs ans ls (state_at l)
   -- request 2026-06, from both
-  pub totals : {M : Type 1} → total_Statement.statement M
+  pub totals : {M : Type 1} → total-statement.statement M
   pub bytes : {cs : List Call} {ans : List Answer} {ls : List Lent} {l : StoredPicture} → History card cs ans ls l → Counted card 0 fresh cs l
   pub any_bytes : {k l : StoredPicture} {cs : List Call} {ans : List Answer} {ls : List Lent} → Ran card k cs ans ls l → Counted card k.bytes (state_at k) cs l
   -- they speak of every list of calls, whatever the lent buffers hold, and of every reading and every size

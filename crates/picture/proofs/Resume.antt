@@ -1,13 +1,12 @@
 -- Whatever phase and bytes a caller kept, calls can make the picture that they are resumed as; and what calls can make is resumed as it was.
 -- Assumes nothing.
-use Prim.Native.Nat.{ℕ, ◌*◌}
+use Prim.Native.Nat.{ℕ}
 use mathlib.Core.Path.{◌≡◌, refl}
 use mathlib.Core.Bool.{true, ◌&&◌}
-use lib.Dec.{leb, eqb}
+use lib.Dec.{leb}
 use borrow.Author.Tests.{le-leb, leb-true, eq-eqb, eqb-true}
 use Rattle.exact.proofs.Boolean.{each_of_three}
 use Rattle.systems.proofs.Ranges.{in_range_lem}
-use Rattle.block.specs.Block.{size}
 use Rattle.block.specs.Read.{width_ok}
 use Rattle.picture.specs.declared.Opened.{Opened}
 use Rattle.picture.specs.declared.Phase.{Phase}

@@ -15,7 +15,7 @@ use Rattle.picture.proofs.Picture.row.Statement as row-statement
 use Rattle.picture.proofs.Picture.row.Met as row-met
 use Rattle.picture.proofs.Picture.close.Statement as close-statement
 use Rattle.picture.proofs.Picture.close.Met as close-met
-use Rattle.picture.proofs.total_bytes.Statement as total_Statement
+use Rattle.picture.proofs.total_bytes.Statement as total-statement
 use Rattle.picture.proofs.total_bytes.Met as total-met
 use Rattle.block.proofs.read_block.Statement as read-statement
 use Rattle.block.proofs.read_block.Met as read-met
@@ -38,7 +38,7 @@ pub record Theorem : Type 3 where
   -- demand 3
   pub lists : {cs : List Call} {ans : List Answer} {ls : List Lent} {q : Picture} → History card cs ans ls q → Demanded card fresh cs ans ls (state_of q.phase)
   -- request 2026-06
-  pub totals : {M : Type 1} → total_Statement.statement M
+  pub totals : {M : Type 1} → total-statement.statement M
   pub fits : (w h b : ℕ) → total_bytes w h ≡ outcome.accepted b → b ≤ 199104480
   pub bytes : {cs : List Call} {ans : List Answer} {ls : List Lent} {q : Picture} → History card cs ans ls q → Counted card 0 fresh cs q
   pub sums : SumSince

@@ -188,7 +188,7 @@ fn resumed(phase: Phase, bytes: u32) -> Phase
 }
 
 // Whether calls can make it.
-#[tactic(auto, using(crate::proofs::Totals::product_most), unfolding(crate::specs::Picture::proper))]
+#[tactic(auto, unfolding(crate::specs::Picture::proper))]
 fn is_proper(o: Opened, bytes: u32) -> bool
     ensures { result ≡ proper o bytes }
 {

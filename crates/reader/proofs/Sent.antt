@@ -99,14 +99,14 @@ pub sent_with : {card : Card} {former : List Call} {n w h : ℕ} {cs : List Call
 sent_with {card} {former} {n} {w} {h} {cs} does calls s lends lends' =
     let first = every_list_happens calls lends in
     let begun = does.picture first.q in
-    let Fresh-on = from_fresh does first.history in
+    let fresh-on = from_fresh does first.history in
     let asked = calls.opens first.q n w h in
     let opening = in_step (does.opens asked.2) (open_step begun n w h) in
-    let may = rw (← Fresh-on.demanded.state) at s.opens in
+    let may = rw (← fresh-on.demanded.state) at s.opens in
     let open-heard = opening.same ∙ book_accepted (accepts_unless_a_condition_holds (state_of begun.phase) (opens n w h)) may in
     let at_open = opening.leads_on ∙ (opens_to (state_of begun.phase) n w h may).0 in
     let made = runs calls lends' asked.1 in
-    let sent = (run does (opening.stays Fresh-on.proper) made.ran).demanded in
+    let sent = (run does (opening.stays fresh-on.proper) made.ran).demanded in
     let full = does.picture made.q in
     let shut = calls.closes made.q in
     let closing = in_step (does.closes shut.2) (close_step full) in

@@ -102,7 +102,6 @@ impl Reader {
     }
 
     // Reads a block as read_block does, where it is the next row. Refused: 36; then as in reading, with 5; then 34, 35.
-    #[tactic(auto, using(crate::proofs::Turns::next_row, crate::proofs::Turns::no_turn))]
     pub fn read(self, bytes: &[u8], codes: &mut [u16]) -> RowRead
         ensures result_value { taken_outcome result ≡ taking self bytes.now (length codes.old) }
         ensures codes_after { codes.new ≡ slice_after self bytes.now codes.old }

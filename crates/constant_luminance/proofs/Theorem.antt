@@ -2,8 +2,6 @@
 -- Assumes nothing.
 use Prim.Native.Nat.{ℕ}
 use mathlib.Core.Path.{◌≡◌, refl}
-use mathlib.Core.Bool.{Bool, true, false}
-use lib.Dec.{eqb}
 use Rattle.exact.specs.Outcome.{Outcome, accepted, refused}
 use Rattle.exact.specs.Signed.{rounded}
 use Rattle.exact.specs.Whole.{INT, greatest}
@@ -14,15 +12,13 @@ use Rattle.curve.specs.Curve.{dark, linear, reaches, curved, code_of, code}
 use Rattle.luminance.specs.Luminance.{luminance_code}
 use Rattle.matrix.specs.declared.Words.{Words}
 use Rattle.matrix.specs.Triples.{words_within}
-use Rattle.constant_luminance.specs.declared.ConstantSystem.{ConstantSystem}
-use Rattle.constant_luminance.specs.declared.ConstantSystem.TheVariants.{Bits10, Bits12}
 use Rattle.constant_luminance.specs.declared.Lights.{Lights}
 use Rattle.constant_luminance.specs.declared.Clipped.{Clipped}
 use Rattle.constant_luminance.specs.declared.Encoded.{Encoded}
 use Rattle.constant_luminance.specs.declared.Encoded.TheVariants as encoded
 use Rattle.constant_luminance.specs.declared.Decoded.{Decoded}
 use Rattle.constant_luminance.specs.declared.Decoded.TheVariants as decoded
-use Rattle.constant_luminance.specs.ConstantLuminance.{base, named, words_at, words_of_lights, codes_at, codes_of_words, words_outcome, codes_outcome}
+use Rattle.constant_luminance.specs.ConstantLuminance.{base, words_at, words_of_lights, codes_at, codes_of_words, words_outcome, codes_outcome}
 use Rattle.constant_luminance.proofs.words_of_lights.Statement as encode-statement
 use Rattle.constant_luminance.proofs.words_of_lights.Met as encode-met
 use Rattle.constant_luminance.proofs.codes_of_words.Statement as decode-statement

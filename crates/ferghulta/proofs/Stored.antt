@@ -14,7 +14,7 @@ use Rattle.ferghulta.specs.Stored.{stored_open, stored_at, open_in, phase_of, st
 
 phase_returns : (f : Phase) (b : ℕ) → phase_of (stored_at f b) ≡ f
 phase_returns Fresh b = refl
-phase_returns (Open o) b = ap (open_in _) (named_number o.system)
+phase_returns (Open o) b = ap (open_in (stored_at (Open o) b)) (named_number o.system)
 phase_returns Closed b = refl
 
 bytes_return : (f : Phase) (b : ℕ) → (stored_at f b).bytes ≡ b

@@ -31,10 +31,10 @@ SOURCES := crates.txt $(shell find crates -name out -prune -o \( -name '*.rt' -o
 
 all: $(ARCHIVE)
 
-# About three minutes the first time.
+# Some ten minutes the first time. For every x86-64 processor, where rt alone would build for x86-64-v2.
 $(ARCHIVE): $(SOURCES)
 	@$(NEED) archive
-	cd crates/ferghulta && $(RT) lib
+	cd crates/ferghulta && $(RT) lib --cpu x86-64
 	install -D -m 644 crates/ferghulta/out/libferghulta.a $@
 
 test:
@@ -99,11 +99,11 @@ check-header:
 	for std in $(C_STANDARDS); do tried $(CC) -std=$$std; done; \
 	for std in $(CXX_STANDARDS); do tried $(CXX) -std=$$std -Wold-style-cast -x c++; done
 
-# The archive calls nothing, not even memcpy.
+# The archive calls nothing but memset and memmove.
 check-archive: $(ARCHIVE)
 	@$(NEED) c
-	@called=$$($(NM) -u $(ARCHIVE) | grep ' U '); [ -z "$$called" ] || { echo "the archive calls what it does not have:"; echo "$$called"; exit 1; }
-	@echo 'the archive calls nothing that it does not have'
+	@called=$$($(NM) -u $(ARCHIVE) | grep ' U ' | grep -v -w -e memset -e memmove); [ -z "$$called" ] || { echo "the archive calls what it does not have:"; echo "$$called"; exit 1; }
+	@echo 'the archive calls nothing that it does not have but memset and memmove'
 
 # Header, archive, Rust wrapper and CHANGELOG.md have one version.
 check-version: $(ARCHIVE) | $(BUILD)
@@ -170,14 +170,14 @@ clean:
 
 help:
 	@echo 'make                    prove the core and build $(ARCHIVE)'
-	@echo '                        (about three minutes the first time)'
+	@echo '                        (some ten minutes the first time)'
 	@echo 'make needs              what the targets need, where it comes from, and what is missing'
 	@echo 'make install-needs      installs what is missing and Debian has; nothing else here installs a package'
 	@echo 'make example            C examples: the program of README.md, and pictures sent and read back'
 	@echo 'make example-rust       the latter in Rust, which has to print the same; rows sent by several threads'
 	@echo 'make check              the interface: check-c (bench values through the header, as C and as C++),'
 	@echo '                        check-header (old and new C and C++, and mistakes that it must refuse),'
-	@echo '                        check-archive (it calls nothing else), check-version,'
+	@echo '                        check-archive (it calls memset and memmove alone), check-version,'
 	@echo '                        check-docs (program and figure of README.md)'
 	@echo 'make figure             makes $(FIGURE) again from the answers of the library'
 	@echo 'make test               rt ci: everything proved from nothing, wrong builds refused, programs run'

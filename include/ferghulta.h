@@ -1,6 +1,6 @@
 /* Ferghulta: rows of linear light become Y'CbCr words of BT.709 and BT.2020 in 4:4:4, in row blocks, and blocks are
  * read back. The source's docs/CONVERSION.md says what is computed. The archive is for x86-64 Linux and calls nothing
- * else, not even the C library; this header is C89 with <stdint.h>, and C++98, or later.
+ * else but the C library's memset and memmove; this header is C89 with <stdint.h>, and C++98, or later.
  *
  * Every call is proved to give the answer that the definitions in crates/ have for its arguments, whatever they are. No
  * call keeps a pointer, allocates, or reads or writes anything but its arguments and the memory that it is lent; none

@@ -180,7 +180,7 @@ help:
 	@echo '                        check-archive (it calls memset and memmove alone), check-version,'
 	@echo '                        check-docs (program and figure of README.md)'
 	@echo 'make figure             makes $(FIGURE) again from the answers of the library'
-	@echo 'make test               rt ci: everything proved from nothing, wrong builds refused, programs run'
+	@echo 'make test               rt ci: everything proved, wrong builds refused, programs run'
 	@echo 'make bench              times (docs/BENCHMARKS.md)'
 	@echo 'make difftest           comparisons with programs that share no code (docs/TESTING.md);'
 	@echo '                        also difftest-long, difftest-valgrind, difftest-mutants, fuzz'

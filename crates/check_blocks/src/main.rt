@@ -23,7 +23,7 @@ fn zeros<const N: usize>() -> [u8; N]
 
 fn check_cases(rt: &HostRuntime) -> io::Result<()> {
     let mut buf = zeros::<524288>();
-    let n = check_records::read(rt, "cases", &mut buf)?;
+    let n = check_records::read(rt, "cases", &mut buf);
     let data = &buf[..n];
     cases::compare(data, 0).print(rt, "accepted:")?;
     cases::compare(data, 1).print(rt, "refused 1:")?;
@@ -37,6 +37,6 @@ fn check_cases(rt: &HostRuntime) -> io::Result<()> {
 
 fn check_clipped(rt: &HostRuntime) -> io::Result<()> {
     let mut buf = zeros::<524288>();
-    let n = check_records::read(rt, "clipped", &mut buf)?;
+    let n = check_records::read(rt, "clipped", &mut buf);
     cases::compare(&buf[..n], 0).print(rt, "accepted, clipped:")
 }

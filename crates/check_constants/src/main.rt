@@ -26,12 +26,12 @@ fn zeros<const N: usize>() -> [u8; N]
 
 fn check_words(rt: &HostRuntime, file: &str, check: &str) -> io::Result<()> {
     let mut buf = zeros::<262144>();
-    let n = check_records::read(rt, file, &mut buf)?;
+    let n = check_records::read(rt, file, &mut buf);
     words::compare(&buf[..n]).print(rt, check)
 }
 
 fn check_codes(rt: &HostRuntime, file: &str, check: &str) -> io::Result<()> {
     let mut buf = zeros::<262144>();
-    let n = check_records::read(rt, file, &mut buf)?;
+    let n = check_records::read(rt, file, &mut buf);
     codes::compare(&buf[..n]).print(rt, check)
 }

@@ -31,7 +31,7 @@ fn zeros<const N: usize>() -> [u8; N]
 
 fn check_cases(rt: &HostRuntime) -> io::Result<()> {
     let mut buf = longest();
-    let n = check_records::read(rt, "cases", &mut buf)?;
+    let n = check_records::read(rt, "cases", &mut buf);
     let data = &buf[..n];
     cases::compare(data, 0).print(rt, "accepted:")?;
     cases::compare(data, 1).print(rt, "refused 1:")?;
@@ -47,7 +47,7 @@ fn check_cases(rt: &HostRuntime) -> io::Result<()> {
 
 fn check_words(rt: &HostRuntime) -> io::Result<()> {
     let mut buf = longest();
-    let n = check_records::read(rt, "words", &mut buf)?;
+    let n = check_records::read(rt, "words", &mut buf);
     let data = &buf[..n];
     cases::compare(data, 0).print(rt, "accepted, every word:")?;
     cases::compare(data, 33).print(rt, "refused 33, every word:")
@@ -55,7 +55,7 @@ fn check_words(rt: &HostRuntime) -> io::Result<()> {
 
 fn check_widest(rt: &HostRuntime) -> io::Result<()> {
     let mut buf = longest();
-    let n = check_records::read(rt, "widest", &mut buf)?;
+    let n = check_records::read(rt, "widest", &mut buf);
     let data = &buf[..n];
     cases::compare(data, 0).print(rt, "accepted, widest:")?;
     cases::compare(data, 5).print(rt, "refused 5, widest:")?;

@@ -9,8 +9,8 @@ use std::io;
 
 fn main(rt: HostRuntime) -> io::Result<()> {
     let mut buf = [0u8; 131072];
-    let n = check_records::read(&rt, "codes", &mut buf)?;
+    let n = check_records::read(&rt, "codes", &mut buf);
     case::compare(Call::OfCode, &buf[..n]).print(&rt, "codes")?;
-    let m = check_records::read(&rt, "differences", &mut buf)?;
+    let m = check_records::read(&rt, "differences", &mut buf);
     case::compare(Call::OfDifference, &buf[..m]).print(&rt, "differences")
 }

@@ -1,7 +1,11 @@
 -- What the programs that compare go by: the numbers in the files of data, the count of comparisons, and nominal codes.
 -- Definitions only.
-use Rattle.std.specs.Prelude.{ℕ, zero, suc, ◌+◌, ◌*◌, ◌-◌, ◌/◌, ◌%◌, ◌^◌, ◌≤◌, ◌<◌, min, ◌≡◌, Bool, true, false, ◌&&◌, cond, List, eqb, leb, length, get_or}
+use Rattle.std.specs.Prelude.{ℕ, zero, suc, ◌+◌, ◌*◌, ◌-◌, ◌/◌, ◌%◌, ◌^◌, ◌≤◌, ◌<◌, min, ◌≡◌, Bool, true, false, ◌&&◌, cond, List, eqb, leb, length, get_or, take}
 use Rattle.check_records.specs.declared.tally.Tally.{Tally}
+
+-- `&xs[..n]` is in bounds and has n bytes
+abbrev pub IsPrefixLen : ℕ → List ℕ → Type 0
+IsPrefixLen n xs = (n ≤ length xs) × (n ≡ length (take n xs))
 
 -- the 16-bit number at a place, low byte first
 abbrev pub u16_at : List ℕ → ℕ → ℕ

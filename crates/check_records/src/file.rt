@@ -1,38 +1,37 @@
 // The files of data/, which the scripts of reference/ make, and the numbers in them.
 ghost use Rattle.std.specs.Prelude.{◌≡◌, ◌+◌, ◌*◌, ◌≤◌, length};
-ghost use Rattle.std.specs.Io.{ReadsAtMost};
-ghost use Rattle.check_records.specs.Records.{u16_at, u32_at};
+ghost use Rattle.check_records.specs.Records.{IsPrefixLen, u16_at, u32_at};
 
+use std::fs;
 use std::io::Read;
 use std::rt::Files;
-use std::{fs, io};
 
 // Reads a file to the front of buf and answers its length: 0 where it does not open, or where buf is too short to show its end.
-pub fn read<R: Files>(rt: &R, path: &str, buf: &mut [u8]) -> io::Result<usize>
-    ensures { ReadsAtMost result buf.new }
+pub fn read<R: Files>(rt: &R, path: &str, buf: &mut [u8]) -> usize
+    ensures { IsPrefixLen result buf.new }
 {
     match fs::open(rt, path) {
         Ok(mut file) => {
-            let n = fill(&mut file, buf)?;
-            Ok(if n < buf.len() { n } else { 0 })
+            let n = fill(&mut file, buf);
+            if n < buf.len() { n } else { 0 }
         }
-        Err(_) => Ok(0),
+        Err(_) => 0,
     }
 }
 
-// Reads to the front of buf until it is full or the input ends, and answers how many bytes it read.
-fn fill<R: Read>(reader: &mut R, buf: &mut [u8]) -> io::Result<usize>
-    ensures { ReadsAtMost result buf.new }
+// Reads to the front of buf until it is full, the input ends or a read fails, and answers how many bytes it read.
+fn fill<R: Read>(reader: &mut R, buf: &mut [u8]) -> usize
+    ensures { IsPrefixLen result buf.new }
 {
     let mut done = 0;
     while done < buf.len() {
-        let n = reader.read(&mut buf[done..])?;
-        if n == 0 {
-            break;
+        match reader.read(&mut buf[done..]) {
+            Ok(0) => break,
+            Ok(n) => done += n,
+            Err(_) => break,
         }
-        done += n;
     }
-    Ok(done)
+    done
 }
 
 // The 16-bit number at a place, low byte first.

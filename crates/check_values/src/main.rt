@@ -24,20 +24,20 @@ fn main(rt: HostRuntime) -> io::Result<()> {
 
 fn check_spans(rt: &(impl Files + Print)) -> io::Result<()> {
     let mut buf = [0u8; 65536];
-    let n = check_records::read(rt, "spans", &mut buf)?;
+    let n = check_records::read(rt, "spans", &mut buf);
     lights::compare_lights(&buf[..n]).print(rt, "lights")?;
     lights::compare_spans(&buf[..n]).print(rt, "spans")
 }
 
 fn check_signals(rt: &(impl Files + Print)) -> io::Result<()> {
     let mut buf = zeros::<524288>();
-    let n = check_records::read(rt, "signals", &mut buf)?;
+    let n = check_records::read(rt, "signals", &mut buf);
     quantised::compare(&buf[..n]).print(rt, "signals")
 }
 
 fn check_restored(rt: &(impl Files + Print)) -> io::Result<()> {
     let mut buf = [0u8; 65536];
-    let n = check_records::read(rt, "restored", &mut buf)?;
+    let n = check_records::read(rt, "restored", &mut buf);
     restored::compare(&buf[..n]).print(rt, "restored")
 }
 

@@ -1,6 +1,6 @@
 /* Ferghulta: rows of linear light become Y'CbCr words of BT.709 and BT.2020 in 4:4:4, in row blocks, and blocks are
  * read back. The source's docs/CONVERSION.md says what is computed. The archive is for x86-64 Linux and calls nothing
- * else but the C library's memset and memmove; this header is C89 with <stdint.h>, and C++98, or later.
+ * else but the C library's memmove; this header is C89 with <stdint.h>, and C++98, or later.
  *
  * Every call is proved to give the answer that the definitions in crates/ have for its arguments, whatever they are. No
  * call keeps a pointer, allocates, or reads or writes anything but its arguments and the memory that it is lent; none
@@ -12,7 +12,7 @@
  * - Memory that is written overlaps no other argument: where it does, wrong bytes are written and nothing tells.
  * - A pointer is never null, with a count of 0 neither; with a count of 0 any other pointer will do, and is not
  *   followed. (gcc and clang warn of a null that they see, and -fsanitize=undefined finds the others.)
- * - The calls with lights need up to 40 KB of stack, the one with constant luminance up to 80 KB.
+ * - No call needs more than 2 KB of stack.
  * - The calls on signals need floating point as a C program starts with it: rounding to nearest, subnormals kept (a
  *   program linked with -ffast-math drops them, and a signal just below 0 would pass for 0).
  *
@@ -130,9 +130,8 @@ FERGHULTA_MUST_USE static __inline const char *ferghulta_refusal_text(uint32_t r
     }
 }
 
-/* ---- Light and code. A light k, 0 to 65535, means the linear light k / 65535. A call makes its depth's table anew, so
- * that a code costs as much as about 15, 50 and 250 lights of a row at 8, 10 and 12 bits, and a span as much as 5, 15
- * and 50: send rows as rows. */
+/* ---- Light and code. A light k, 0 to 65535, means the linear light k / 65535. A call looks its depth's table up; a
+ * light of a row costs less still, so send rows as rows. */
 
 typedef struct ferghulta_code_answer {
     uint32_t refusal;
@@ -238,8 +237,8 @@ typedef struct ferghulta_constant_words_answer {
 } ferghulta_constant_words_answer;
 
 /* Y'c, C'bc and C'rc of a triple of light. They are nominal for every triple, so that none is ever moved, and decoded
- * they give R' and B' within one code of the codes of R and B, with nothing clipped. The call makes its depth's tables
- * anew, and costs as much as several codes of lights. Refused: 1 (system not 5 or 6). */
+ * they give R' and B' within one code of the codes of R and B, with nothing clipped. Refused: 1 (system
+ * not 5 or 6). */
 FERGHULTA_MUST_USE ferghulta_constant_words_answer ferghulta_constant_words_of_lights(uint32_t system,
                                                                                       ferghulta_lights lights);
 

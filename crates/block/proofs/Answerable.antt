@@ -1,18 +1,18 @@
 -- Every outcome of reading a block has an answer that says it, so the claims about readings speak of every block.
 -- Assumes nothing.
 use Prim.Native.Nat.{ℕ, ◌+◌, ◌*◌}
-use mathlib.Core.Path.{◌≡◌, refl}
+use mathlib.Core.Path.{◌≡◌}
 use mathlib.Core.Bool.{Bool}
 use mathlib.Core.List.{List}
 use lib.Dec.{leb, eqb}
 use lib.ListN.{length, get_or}
-use Rattle.exact.specs.Outcome.{Outcome}
 use Rattle.systems.specs.declared.refusal.Refusal.TheVariants as refusal
-use Rattle.systems.proofs.Answerable.{Answerable, values, refusing, tested, followed, named_answerable}
-use Rattle.block.specs.declared.BlockRead.{BlockRead}
-use Rattle.block.specs.declared.BlockRead.TheVariants as read
+use Rattle.systems.proofs.Answerable.{Answerable, values, answer_for, tested, followed, named_answerable}
 use Rattle.block.specs.declared.Header.{Header}
-use Rattle.block.specs.Read.{field_at, section_at, width_ok, sections, walk, words_ok, judge, header_of, header_outcome}
+use Rattle.block.specs.Read.{field_at, section_at, width_ok, sections, walk, words_ok, judge, header_of}
+use Rattle.std.specs.Prelude.{Result}
+use Rattle.systems.specs.declared.refusal.Refusal.{Refusal}
+use Rattle.systems.specs.Refusals.{outcome}
 
 section_answerable : (bs : List ℕ) (i : ℕ) (good : ℕ → Bool) → Answerable (section_at bs i good)
 section_answerable bs i good =
@@ -44,14 +44,6 @@ pub reading_answerable : (bs : List ℕ) (room : ℕ) → Answerable (header_of 
 unfolding header_of
 reading_answerable bs room = followed (judge_answerable bs) (λ b. tested (leb (3 * b.samples) room) refusal.Output (values _))
 
--- an answer that says o
-pub record ReadFor (o : Outcome Header) : Type 0 where
-  pub read : BlockRead
-  pub outcome : header_outcome read ≡ o
-
-pub read_for : (bs : List ℕ) (room : ℕ) → ReadFor (header_of bs room)
-read_for bs room = found (reading_answerable bs room)
-  where
-    found : {o : Outcome Header} → Answerable o → ReadFor o
-    found (values h) = record { read = read.Row h; outcome = refl }
-    found (refusing r) = record { read = read.Refused r; outcome = refl }
+-- an answer that says what reading comes to
+pub read_for : (bs : List ℕ) (room : ℕ) → (r : Result Header Refusal) × (outcome r ≡ header_of bs room)
+read_for bs room = answer_for (reading_answerable bs room)

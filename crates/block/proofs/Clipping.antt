@@ -81,9 +81,6 @@ module _ (r : Range) where
                 ∙ ap (λ (l : List ℕ). l ++ drop (suc i) slice) (sym (clipped_append front (v ∷ [])) ∙ ap (clipped_all r) (sym next));
           }
 
-  pub all_done : (slice : List ℕ) (n i : ℕ) (k : Clips) (d : List ℕ) → i ≡ n → SoFar slice i k d → (k ≡ beyond_all r (take n slice)) × (d ≡ clipped_all r (take n slice) ++ drop n slice)
-  all_done slice n i k d e f = (f.counted ∙ ap (λ (j : ℕ). beyond_all r (take j slice)) e, f.codes ∙ ap (λ (j : ℕ). clipped_all r (take j slice) ++ drop j slice) e)
-
 -- ---- a row of words
 module _ (x : Matrix) (s : ℕ) (range : Range) (row : ℕ → Words) (S : s ≤ 16) where
   abbrev decoded_row : ℕ → Clipped

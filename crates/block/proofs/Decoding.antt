@@ -54,11 +54,6 @@ module _ (row : ℕ → Codes) where
     codes = g ∙ ap (λ (t : Codes). sets d (3 * i) (rgb t)) p ∙ triples_more i slice d (omega arith) f.codes;
   }
 
-  pub all_done : (n i : ℕ) (slice d : List ℕ) → n ≤ i → SoFar n slice i d → d ≡ triples_to row n ++ drop (3 * n) slice
-  all_done n i slice d h f =
-      let e : i ≡ n = omega (arith, f.within) in
-      f.codes ∙ ap (λ (j : ℕ). triples_to row j ++ drop (3 * j) slice) e
-
   pub so_far_long : (n i : ℕ) (slice d : List ℕ) → 3 * n ≤ length slice → SoFar n slice i d → length d ≡ length slice
   so_far_long n i slice d room f = ap length f.codes ∙ triples_kept i slice (omega (arith, f.within))
 

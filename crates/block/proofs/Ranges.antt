@@ -1,20 +1,18 @@
 -- The words of a block in a range: counted outside it section by section, and required of each sample.
 -- Assumes nothing.
 use mathlib.Core.Path.{◌≡◌, refl, sym, ap, ◌∙◌}
-use mathlib.Core.Bool.{Bool, true, false, ◌&&◌, ◌||◌, and-true, and-false, false≢true}
-use mathlib.Core.Logic.{◌⊎◌, inl, inr, ⊎_elim}
+use mathlib.Core.Bool.{Bool, true, false, ◌&&◌, ◌||◌, and-false, false≢true}
+use mathlib.Core.Logic.{⊎_elim}
 use mathlib.Core.List.{List}
 use Prim.Native.Nat.{ℕ, zero, suc, ◌+◌, ◌*◌, ◌≤◌, ◌<◌}
 use native.Mathlib.Nat.{not-suc-le-zero}
 use native.Mathlib.Numerals.{add-one}
 use native.Mathlib.Omega.{arith}
-use lib.Dec.{ltb, eqb}
+use lib.Dec.{leb, ltb, eqb}
 use mir.Val.{bool_byte}
-use borrow.Author.Tests.{le-leb, lt-leb, lt-ltb, le-ltb, ne_eqb}
-use Rattle.exact.proofs.Boolean.{bit_small}
+use Rattle.std.proofs.lemmas.Bool.Decides.{nat_tests}
 use Rattle.exact.proofs.Order.{below_or_not}
 use Rattle.systems.specs.declared.Range.{Range}
-use Rattle.systems.specs.Systems.{within}
 use Rattle.matrix.specs.declared.Words.{Words}
 use Rattle.matrix.specs.Triples.{words_within}
 use Rattle.block.specs.Read.{field_at, sample_at, within_to}
@@ -24,38 +22,20 @@ use Rattle.block.specs.Inner.{in_range}
 abbrev pub misses : Range → ℕ → ℕ
 misses r w = bool_byte (ltb w r.low || ltb r.high w)
 
+sum_tested : (bad w low high : ℕ) → eqb (bad + bool_byte (ltb w low || ltb high w)) 0 ≡ (eqb bad 0 && (leb low w && leb w high))
+sum_tested bad w low high = grind (arith, nat_tests)
+
 -- both of two tests that pass together
 pub each : (a b : Bool) → (a && b) ≡ true → (a ≡ true) × (b ≡ true)
 each true true e = (refl, refl)
 each true false e = absurd (false≢true e)
 each false b e = absurd (false≢true e)
 
--- a sum is 0 where both its parts are
-none_more : (n m : ℕ) (t : Bool) → (t ≡ true → m ≡ 0) → (t ≡ false → 0 < m) → eqb (n + m) 0 ≡ (eqb n 0 && t)
-none_more n m true z p =
-    let e : n + m ≡ n = omega (arith, z refl) in
-    ap (λ (k : ℕ). eqb k 0) e ∙ sym (and-true (eqb n 0))
-none_more n m false z p = ne_eqb (n + m) 0 (λ e. omega (arith, p refl)) ∙ sym (and-false (eqb n 0))
-
-pub misses_small : (r : Range) (w : ℕ) → misses r w ≤ 1
-misses_small r w = bit_small (ltb w r.low || ltb r.high w)
-
-within_misses : (r : Range) (w : ℕ) → (within r w ≡ true → misses r w ≡ 0) × (within r w ≡ false → 0 < misses r w)
-within_misses r w = go (below_or_not w r.low) (below_or_not r.high w)
-  where
-    go : (w < r.low) ⊎ (r.low ≤ w) → (r.high < w) ⊎ (w ≤ r.high) → (within r w ≡ true → misses r w ≡ 0) × (within r w ≡ false → 0 < misses r w)
-    go (inl p) q = rw (lt-leb _ _ p, lt-ltb _ _ p) ((λ e. absurd (false≢true e)), (λ e. omega arith))
-    go (inr p) (inl q) = rw (le-leb _ _ p, le-ltb _ _ p, lt-leb _ _ q, lt-ltb _ _ q) ((λ e. absurd (false≢true e)), (λ e. omega arith))
-    go (inr p) (inr q) = rw (le-leb _ _ p, le-ltb _ _ p, le-leb _ _ q, le-ltb _ _ q) ((λ e. refl), (λ e. absurd (false≢true (sym e))))
-
 -- one word more
 pub range_more : (r : Range) (bs : List ℕ) (at i bad : ℕ) → eqb bad 0 ≡ in_range r bs at i
     → eqb (bad + misses r (field_at bs (at + 2 * i))) 0 ≡ in_range r bs at (i + 1)
 unfolding in_range
-range_more r bs at i bad e =
-    let w = field_at bs (at + 2 * i) in
-    let m = within_misses r w in
-    rw (add-one i) (none_more bad (misses r w) (within r w) m.0 m.1 ∙ ap (λ (t : Bool). t && within r w) e)
+range_more r bs at i bad e = rw (add-one i, ← e) (sum_tested bad (field_at bs (at + 2 * i)) r.low r.high)
 
 -- two tests of three parts, part by part
 pub by_parts : (a b c d e f : Bool) → ((a && b && c) && (d && e && f)) ≡ ((a && d) && (b && e) && (c && f))

@@ -56,6 +56,9 @@ module _ (bs : List ℕ) (room : ℕ) where
           fits = h;
         }
 
+    pub decodable_by_test : leb (3 * b.samples) room ≡ true → Decodable bs b.samples room
+    decodable_by_test h = decodable (leb-true (3 * b.samples) room h)
+
 module _ (bs slice : List ℕ) where
   pub slice_stays : (n : ℕ) → header_of bs (length slice) ≡ refused n → slice ≡ slice_after bs slice
   slice_stays n e = ap (λ (o : Outcome Header). slice_by o bs slice) (sym e)

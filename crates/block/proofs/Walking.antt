@@ -2,42 +2,36 @@
 -- Assumes nothing.
 use mathlib.Core.Path.{◌≡◌, refl, sym, ap, ◌∙◌}
 use mathlib.Core.Bool.{Bool, true, false}
-use mathlib.Core.Logic.{◌⊎◌, inl, inr}
 use mathlib.Core.List.{List}
-use Prim.Native.Nat.{ℕ, ◌+◌, ◌*◌, ◌≤◌, ◌<◌}
+use Prim.Native.Nat.{ℕ, ◌+◌, ◌*◌, ◌≤◌}
 use native.Mathlib.Omega.{arith}
 use lib.Dec.{leb, eqb}
 use lib.ListN.{length, get_or}
-use borrow.Author.Tests.{le-leb, lt-leb, leb-true, eqb-true, eqb-false}
+use borrow.Author.Tests.{leb-true, eqb-true}
 use Rattle.exact.specs.Outcome.{Outcome, accepted, require}
-use Rattle.exact.proofs.Order.{below_or_not}
+use Rattle.std.proofs.lemmas.Bool.Decides.{nat_tests}
 use Rattle.exact.proofs.Outcome.{accepted_first, required}
 use Rattle.systems.specs.declared.Range.{Range}
 use Rattle.systems.specs.Systems.{named, within}
-use Rattle.block.specs.declared.Counted.{Counted}
 use Rattle.block.specs.declared.Judged.{Judged}
 use Rattle.block.specs.Read.{field_at, section_at, width_ok, sections, walk}
-use Rattle.block.specs.Inner.{count_outcome}
 use Rattle.block.proofs.Ranges.{each}
+use Rattle.std.specs.Prelude.{Result}
+use Rattle.systems.specs.declared.refusal.Refusal.{Refusal}
+use Rattle.systems.specs.Refusals.{outcome}
 
 -- the range of one count
 abbrev pub only : ℕ → Range
 only w = record { low = w; high = w }
 
 one_count : (w n : ℕ) → within (only w) n ≡ eqb w n
-one_count w n = go (eqb w n) refl (below_or_not w n) (below_or_not n w)
-  where
-    go : (t : Bool) → eqb w n ≡ t → (w < n) ⊎ (n ≤ w) → (n < w) ⊎ (w ≤ n) → within (only w) n ≡ t
-    go true e p q = let same = eqb-true w n e in rw (le-leb w n (omega arith), le-leb n w (omega arith)) refl
-    go false e (inl p) q = rw (le-leb w n (omega arith), lt-leb n w p) refl
-    go false e (inr p) (inl q) = rw (lt-leb w n q) refl
-    go false e (inr p) (inr q) = absurd (eqb-false w n e (omega arith))
+one_count w n = grind (arith, nat_tests)
 
 section_of_one_count : (bs : List ℕ) (i w : ℕ) → section_at bs i (within (only w)) ≡ section_at bs i (eqb w)
 section_of_one_count bs i w = rw (one_count w (field_at bs i))
 
 -- what the section of a count that is known says
-pub section_said : (bs : List ℕ) (i w : ℕ) (r : Counted) → count_outcome r ≡ section_at bs i (within (only w)) → section_at bs i (eqb w) ≡ count_outcome r
+pub section_said : (bs : List ℕ) (i w : ℕ) (r : Result ℕ Refusal) → outcome r ≡ section_at bs i (within (only w)) → section_at bs i (eqb w) ≡ outcome r
 section_said bs i w r e = sym (e ∙ section_of_one_count bs i w)
 
 -- an outcome that was required and is accepted

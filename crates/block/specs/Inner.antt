@@ -1,25 +1,16 @@
 -- Inner definitions: the steps of reading a block, and a field that is stored. Nothing here has to be believed.
 -- Definitions only.
-use Rattle.std.specs.Prelude.{ℕ, zero, suc, ◌+◌, ◌*◌, ◌^◌, ◌/◌, ◌%◌, ◌≤◌, ◌<◌, Bool, true, false, ◌&&◌, List, [], ◌∷◌, ◌++◌, ltb, ℤ, pos, nat_abs, ◌+ℤ◌, ◌-ℤ◌, length, set}
-use Rattle.exact.specs.Outcome.{Outcome, accepted, refused}
+use Rattle.std.specs.Prelude.{ℕ, zero, suc, ◌+◌, ◌*◌, ◌^◌, ◌/◌, ◌%◌, ◌≤◌, ◌<◌, Bool, true, ◌&&◌, List, [], ◌∷◌, ◌++◌, ℤ, pos, nat_abs, ◌+ℤ◌, ◌-ℤ◌, length, set}
 use Rattle.systems.specs.declared.Codes.{Codes}
 use Rattle.systems.specs.declared.Matrix.{Matrix}
 use Rattle.systems.specs.declared.Range.{Range}
 use Rattle.systems.specs.Systems.{within}
-use Rattle.systems.specs.Refusals.{refusal}
 use Rattle.matrix.specs.declared.Clips.{Clips}
 use Rattle.matrix.specs.declared.Words.{Words}
 use Rattle.matrix.specs.declared.Unclipped.{Unclipped}
 use Rattle.matrix.specs.Triples.{natural, no_clips, ◌plus◌, clipped, beyond}
 use Rattle.matrix.specs.Inner.{TwelveBitWords, unclipped_at}
-use Rattle.block.specs.declared.Counted.{Counted}
-use Rattle.block.specs.declared.Counted.TheVariants as counted
 use Rattle.block.specs.Read.{field_at, sample_at, rgb}
-
--- what the answer of a section says
-abbrev pub count_outcome : Counted → Outcome ℕ
-count_outcome (counted.Count w) = accepted w
-count_outcome (counted.Refused r) = refused (refusal r)
 
 -- the first n words from a place are in a range
 unfoldable pub in_range : Range → List ℕ → ℕ → ℕ → Bool
@@ -62,17 +53,6 @@ triples_to sample (suc n) = triples_to sample n ++ rgb (sample n)
 pub record Clippable (n : Range) : Type 0 where
   pub in_order : n.low ≤ n.high
   pub small : n.high < 2 ^ 12
-
--- a number, or the end that it is beyond
-abbrev pub one_of : Bool → ℕ → ℕ → ℕ
-one_of true end v = end
-one_of false end v = v
-
-abbrev pub at_least : ℕ → ℕ → ℕ
-at_least v low = one_of (ltb v low) low v
-
-abbrev pub at_most : ℕ → ℕ → ℕ
-at_most v high = one_of (ltb high v) high v
 
 -- biased components clipped to a range, and their clips
 unfoldable pub clipped_all : Range → List ℕ → List ℕ

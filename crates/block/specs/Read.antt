@@ -6,17 +6,12 @@ use Rattle.systems.specs.declared.Codes.{Codes}
 use Rattle.systems.specs.declared.Range.{Range}
 use Rattle.systems.specs.declared.System.{System}
 use Rattle.systems.specs.Systems.{named, matrix, scale, video_data}
-use Rattle.systems.specs.Refusals.{refusal}
 use Rattle.matrix.specs.declared.Clips.{Clips}
 use Rattle.matrix.specs.declared.Clipped.{Clipped}
 use Rattle.matrix.specs.declared.Words.{Words}
 use Rattle.matrix.specs.Triples.{no_clips, ◌plus◌, codes_at, words_within}
 use Rattle.block.specs.declared.Header.{Header}
 use Rattle.block.specs.declared.Judged.{Judged}
-use Rattle.block.specs.declared.Judgement.{Judgement}
-use Rattle.block.specs.declared.Judgement.TheVariants as judgement
-use Rattle.block.specs.declared.BlockRead.{BlockRead}
-use Rattle.block.specs.declared.BlockRead.TheVariants as answer
 
 -- the field at a place
 abbrev pub field_at : List ℕ → ℕ → ℕ
@@ -106,12 +101,3 @@ slice_by (refused n) bs slice = slice
 
 abbrev pub slice_after : List ℕ → List ℕ → List ℕ
 slice_after bs slice = slice_by (header_of bs (length slice)) bs slice
-
--- what the answers say
-abbrev pub judged_outcome : Judgement → Outcome Judged
-judged_outcome (judgement.Block b) = accepted b
-judged_outcome (judgement.Refused r) = refused (refusal r)
-
-abbrev pub header_outcome : BlockRead → Outcome Header
-header_outcome (answer.Row h) = accepted h
-header_outcome (answer.Refused r) = refused (refusal r)

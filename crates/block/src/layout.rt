@@ -1,4 +1,5 @@
-// Where the fields of a row block stand (document 01, 'Row block'); each number stands here once.
+// Where the fields of a row block stand (document 01, 'Row block'); each number stands here once, as it stands there, which one
+// function of a section's number would not show.
 ghost use Rattle.std.specs.Prelude.{◌≡◌, ◌+◌, ◌*◌, ◌<◌};
 ghost use Rattle.block.specs.Block.{size};
 

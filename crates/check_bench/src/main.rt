@@ -2,11 +2,10 @@
 // request 2026-07, run through the public calls, a line each. proofs/Bench.antt has the starred ones as a theorem.
 #![tactic(auto)]
 
-use light::{CodeSpan, LightCode};
-use matrix::{Decoded, Encoded, Encoding, Words};
-use signals::{Quantised, Signals};
+use matrix::{Encoding, Words};
+use signals::Signals;
 use std::io;
-use systems::{Codes, Refusal};
+use systems::Codes;
 
 fn main(rt: HostRuntime) -> io::Result<()> {
     of_light(&rt, 1, 33)?;
@@ -16,133 +15,81 @@ fn main(rt: HostRuntime) -> io::Result<()> {
     of_light(&rt, 2, 32768)?;
     of_light(&rt, 4, 1186)?;
     of_light(&rt, 4, 1187)?;
-    ends(&rt, 1)?;
-    ends(&rt, 2)?;
-    ends(&rt, 3)?;
-    ends(&rt, 4)?;
-    of_signal(&rt, 1, 0.5, " E' 0.5:")?;
-    of_signal(&rt, 2, 0.375, " E' 0.375:")?;
-    of_codes(&rt, 1, 235, 16, 16)?;
-    of_words(&rt, 1, 63, 102, 240)?;
-    of_codes(&rt, 1, 16, 16, 235)?;
-    of_words(&rt, 1, 32, 240, 118)?;
-    of_codes(&rt, 1, 16, 235, 16)?;
-    of_codes(&rt, 3, 940, 64, 64)?;
-    of_words(&rt, 1, 16, 240, 240)?;
-    of_words(&rt, 1, 15, 128, 128)?;
-    of_words(&rt, 1, 180, 1, 1)?;
-    of_words(&rt, 1, 75, 254, 254)?;
-    of_words(&rt, 1, 0, 128, 128)?;
-    of_codes(&rt, 1, 1, 1, 254)?;
-    of_trimmed(&rt, 1, 1, 1, 254)?;
-    of_codes(&rt, 1, 16, 16, 250)?;
-    of_trimmed(&rt, 1, 16, 16, 250)
-}
-
-fn ends(rt: &impl Print, system: u32) -> io::Result<()> {
-    of_light(rt, system, 0)?;
-    of_light(rt, system, 65535)
+    for system in 1..=4 {
+        of_light(&rt, system, 0)?;
+        of_light(&rt, system, 65535)?;
+    }
+    of_signal(&rt, 1, 0.5)?;
+    of_signal(&rt, 2, 0.375)?;
+    of_codes(&rt, 1, Encoding::Plain, [235, 16, 16])?;
+    of_words(&rt, 1, [63, 102, 240])?;
+    of_codes(&rt, 1, Encoding::Plain, [16, 16, 235])?;
+    of_words(&rt, 1, [32, 240, 118])?;
+    of_codes(&rt, 1, Encoding::Plain, [16, 235, 16])?;
+    of_codes(&rt, 3, Encoding::Plain, [940, 64, 64])?;
+    of_words(&rt, 1, [16, 240, 240])?;
+    of_words(&rt, 1, [15, 128, 128])?;
+    of_words(&rt, 1, [180, 1, 1])?;
+    of_words(&rt, 1, [75, 254, 254])?;
+    of_words(&rt, 1, [0, 128, 128])?;
+    of_codes(&rt, 1, Encoding::Plain, [1, 1, 254])?;
+    of_codes(&rt, 1, Encoding::Trim, [1, 1, 254])?;
+    of_codes(&rt, 1, Encoding::Plain, [16, 16, 250])?;
+    of_codes(&rt, 1, Encoding::Trim, [16, 16, 250])
 }
 
 fn of_light(rt: &impl Print, system: u32, light: u16) -> io::Result<()> {
-    given(rt, system, " light ")?;
-    number(rt, light as u64)?;
-    print!(rt; ":")?;
+    print!(rt; "system {system} light {light}: ")?;
     match light::code_of_light(system, light) {
-        LightCode::Code(d) => value(rt, d)?,
-        LightCode::Refused(r) => refused(rt, r)?,
+        Ok(code) => println!(rt; "{code}"),
+        Err(refusal) => println!(rt; "{refusal}"),
     }
-    println!(rt)
 }
 
 fn of_span(rt: &impl Print, system: u32, code: u16) -> io::Result<()> {
-    given(rt, system, " span of ")?;
-    number(rt, code as u64)?;
-    print!(rt; ":")?;
+    print!(rt; "system {system} span of {code}: ")?;
     match light::span_of_code(system, code) {
-        CodeSpan::Lights(s) => {
-            value(rt, s.least)?;
-            print!(rt; " to")?;
-            value(rt, s.greatest)?;
-        }
-        CodeSpan::Refused(r) => refused(rt, r)?,
+        Ok(span) => println!(rt; "{} to {}", span.least, span.greatest),
+        Err(refusal) => println!(rt; "{refusal}"),
     }
-    println!(rt)
 }
 
 // One signal in all three components.
-fn of_signal(rt: &impl Print, system: u32, e: f32, name: &str) -> io::Result<()> {
-    given(rt, system, name)?;
+fn of_signal(rt: &impl Print, system: u32, e: f32) -> io::Result<()> {
+    print!(rt; "system {system} E' {e}: ")?;
     match signals::codes_of_signals(system, Signals { r: e, g: e, b: e }) {
-        Quantised::Codes(c) => three(rt, c.r, c.g, c.b)?,
-        Quantised::Refused(r) => refused(rt, r)?,
+        Ok(Codes { r, g, b }) => println!(rt; "{r} {g} {b}"),
+        Err(refusal) => println!(rt; "{refusal}"),
     }
-    println!(rt)
 }
 
-fn of_codes(rt: &impl Print, system: u32, r: u16, g: u16, b: u16) -> io::Result<()> {
-    given(rt, system, " codes")?;
-    encoded(rt, system, Encoding::Plain, Codes { r, g, b })
-}
-
-fn of_trimmed(rt: &impl Print, system: u32, r: u16, g: u16, b: u16) -> io::Result<()> {
-    given(rt, system, " trimmed codes")?;
-    encoded(rt, system, Encoding::Trim, Codes { r, g, b })
-}
-
-fn encoded(rt: &impl Print, system: u32, encoding: Encoding, codes: Codes) -> io::Result<()> {
-    three(rt, codes.r, codes.g, codes.b)?;
-    print!(rt; ":")?;
-    match matrix::words_of_codes(system, encoding, codes) {
-        Encoded::Words(l) => {
-            three(rt, l.words.y, l.words.cb, l.words.cr)?;
-            print!(rt; " moved ")?;
-            number(rt, l.moved as u64)?;
+fn of_codes(rt: &impl Print, system: u32, encoding: Encoding, codes: [u16; 3]) -> io::Result<()> {
+    let [r, g, b] = codes;
+    let trimmed = match encoding {
+        Encoding::Plain => "",
+        Encoding::Trim => "trimmed ",
+    };
+    print!(rt; "system {system} {trimmed}codes {r} {g} {b}: ")?;
+    match matrix::words_of_codes(system, encoding, Codes { r, g, b }) {
+        Ok(limited) => {
+            let Words { y, cb, cr } = limited.words;
+            println!(rt; "{y} {cb} {cr} moved {}", limited.moved)
         }
-        Encoded::Refused(r) => refused(rt, r)?,
+        Err(refusal) => println!(rt; "{refusal}"),
     }
-    println!(rt)
 }
 
-fn of_words(rt: &impl Print, system: u32, y: u16, cb: u16, cr: u16) -> io::Result<()> {
-    given(rt, system, " words")?;
-    three(rt, y, cb, cr)?;
-    print!(rt; ":")?;
+fn of_words(rt: &impl Print, system: u32, words: [u16; 3]) -> io::Result<()> {
+    let [y, cb, cr] = words;
+    print!(rt; "system {system} words {y} {cb} {cr}: ")?;
     match matrix::codes_of_words(system, Words { y, cb, cr }) {
-        Decoded::Codes(c) => {
-            three(rt, c.codes.r, c.codes.g, c.codes.b)?;
-            print!(rt; " low ")?;
-            number(rt, c.clips.low as u64)?;
-            print!(rt; " high ")?;
-            number(rt, c.clips.high as u64)?;
+        Ok(clipped) => {
+            let Codes { r, g, b } = clipped.codes;
+            println!(rt;
+                "{r} {g} {b} low {} high {}",
+                clipped.clips.low, clipped.clips.high
+            )
         }
-        Decoded::Refused(r) => refused(rt, r)?,
+        Err(refusal) => println!(rt; "{refusal}"),
     }
-    println!(rt)
-}
-
-fn given(rt: &impl Print, system: u32, what: &str) -> io::Result<()> {
-    print!(rt; "system ")?;
-    number(rt, system as u64)?;
-    print!(rt; "{what}")
-}
-
-fn refused(rt: &impl Print, r: Refusal) -> io::Result<()> {
-    print!(rt; " refused ")?;
-    number(rt, r.number() as u64)
-}
-
-fn three(rt: &impl Print, a: u16, b: u16, c: u16) -> io::Result<()> {
-    value(rt, a)?;
-    value(rt, b)?;
-    value(rt, c)
-}
-
-fn value(rt: &impl Print, x: u16) -> io::Result<()> {
-    print!(rt; " ")?;
-    number(rt, x as u64)
-}
-
-fn number(rt: &impl Print, x: u64) -> io::Result<()> {
-    print!(rt; "{x}")
 }

@@ -1,11 +1,14 @@
 -- The records of the files that reference/make_constants.py makes, and whether the conversion agrees with them.
 -- Definitions only.
-use Rattle.std.specs.Prelude.{ℕ, ◌+◌, ◌*◌, Bool, ◌&&◌, List, eqb}
+use Rattle.std.specs.Prelude.{ℕ, ◌+◌, ◌*◌, Bool, false, ◌&&◌, cond, List, eqb, Result, Ok, Err}
 use Rattle.exact.specs.Outcome.{Outcome, accepted, refused}
 use Rattle.matrix.specs.declared.Words.{Words}
+use Rattle.matrix.specs.declared.Clips.{Clips}
 use Rattle.constant_luminance.specs.declared.Clipped.{Clipped}
 use Rattle.constant_luminance.specs.declared.Lights.{Lights}
+use Rattle.constant_luminance.specs.declared.RedBlue.{RedBlue}
 use Rattle.constant_luminance.specs.ConstantLuminance.{words_of_lights, codes_of_words}
+use Rattle.check_samples.specs.Samples.{words_in}
 use Rattle.check_records.specs.Records.{u16_at, u32_at}
 use Rattle.check_constants.specs.declared.codes.Case.{Case as CodesCase}
 use Rattle.check_constants.specs.declared.words.Case.{Case as WordsCase}
@@ -14,41 +17,47 @@ use Rattle.check_constants.specs.declared.words.Case.{Case as WordsCase}
 abbrev pub lights_in : List ℕ → ℕ → Lights
 lights_in bs i = record { r = u16_at bs i; g = u16_at bs (i + 2); b = u16_at bs (i + 4) }
 
-abbrev pub words_in : List ℕ → ℕ → Words
-words_in bs i = record { y = u16_at bs i; cb = u16_at bs (i + 2); cr = u16_at bs (i + 4) }
+-- two numbers
+abbrev pub codes_in : List ℕ → ℕ → RedBlue
+codes_in bs i = record { r = u16_at bs i; b = u16_at bs (i + 2) }
 
--- a call's answer is the record's: its values where its refusal n is 0, or its refusal
-abbrev pub agrees : {A : Type 0} → Outcome A → ℕ → (A → Bool) → Bool
-agrees (accepted a) n same = eqb n 0 && same a
-agrees (refused m) n same = eqb m n
+abbrev pub clips_in : List ℕ → ℕ → Clips
+clips_in bs i = record { low = u16_at bs i; high = u16_at bs (i + 2) }
+
+-- what is due: the values of a record, or the number of the refusal where that is not 0
+abbrev pub due : {A : Type 0} → ℕ → A → Result A ℕ
+due n a = cond (eqb n 0) (Ok a) (Err n)
+
+-- a call's answer is the one that is due
+abbrev pub agrees : {A B : Type 0} → (A → B → Bool) → Outcome A → Result B ℕ → Bool
+agrees same (accepted a) (Ok b) = same a b
+agrees same (accepted a) (Err n) = false
+agrees same (refused m) (Ok b) = false
+agrees same (refused m) (Err n) = eqb m n
 
 -- lights to words: the record of 18 bytes at a place
 abbrev pub words_case : List ℕ → ℕ → WordsCase
-words_case bs i = record { system = u32_at bs i; refusal = u16_at bs (i + 4); lights = lights_in bs (i + 6); words = words_in bs (i + 12) }
+words_case bs i = record { system = u32_at bs i; lights = lights_in bs (i + 6); due = due (u16_at bs (i + 4)) (words_in bs (i + 12)) }
 
-abbrev pub same_words : WordsCase → Words → Bool
-same_words c w = eqb w.y c.words.y && eqb w.cb c.words.cb && eqb w.cr c.words.cr
+abbrev pub same_words : Words → Words → Bool
+same_words w v = eqb w.y v.y && eqb w.cb v.cb && eqb w.cr v.cr
 
 abbrev pub words_met : WordsCase → Bool
-words_met c = agrees (words_of_lights c.system c.lights) c.refusal (same_words c)
+words_met c = agrees same_words (words_of_lights c.system c.lights) c.due
 
 -- words to codes: the record of 20 bytes at a place
 abbrev pub codes_case : List ℕ → ℕ → CodesCase
 codes_case bs i = record {
   system = u32_at bs i;
-  refusal = u16_at bs (i + 4);
   words = words_in bs (i + 6);
-  r = u16_at bs (i + 12);
-  b = u16_at bs (i + 14);
-  low = u16_at bs (i + 16);
-  high = u16_at bs (i + 18);
+  due = due (u16_at bs (i + 4)) (codes_in bs (i + 12), clips_in bs (i + 16));
 }
 
-abbrev pub same_codes : CodesCase → Clipped → Bool
-same_codes c d = (eqb d.codes.r c.r && eqb d.codes.b c.b) && (eqb d.clips.low c.low && eqb d.clips.high c.high)
+abbrev pub same_codes : Clipped → RedBlue × Clips → Bool
+same_codes d e = (eqb d.codes.r e.0.r && eqb d.codes.b e.0.b) && (eqb d.clips.low e.1.low && eqb d.clips.high e.1.high)
 
 abbrev pub codes_met : CodesCase → Bool
-codes_met c = agrees (codes_of_words c.system c.words) c.refusal (same_codes c)
+codes_met c = agrees same_codes (codes_of_words c.system c.words) c.due
 
 -- whether record i of each file is met
 abbrev pub words_at : List ℕ → ℕ → Bool

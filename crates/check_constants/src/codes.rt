@@ -4,47 +4,42 @@ ghost use Rattle.check_records.specs.Records.{tally_of};
 ghost use Rattle.check_constants.specs.Cases.{codes_case, codes_met, codes_at};
 
 use crate::fields;
-use check_records::{Tally, u16_at, u32_at, wide};
-use constant_luminance::Decoded;
-use matrix::Words;
+use check_records::{Tally, u16_at, u32_at};
+use check_samples::words_at;
+use constant_luminance::{Clipped, RedBlue};
+use matrix::{Clips, Words};
+use systems::Refusal;
 
-// One record: words, and R', B' and the clips low and high that they have in a system, or the number of the refusal.
+// One record: words, and R', B' and the clips that are due for them in a system, or the number of the refusal.
 #[derive(Clone, Copy)]
 struct Case {
     system: u32,
-    refusal: u32,
     words: Words,
-    r: u16,
-    b: u16,
-    low: u16,
-    high: u16,
+    due: Result<(RedBlue, Clips), u32>,
 }
 
 // Compares the answer for each record with it.
 pub fn compare(records: &[u8]) -> Tally
     ensures { result ≡ tally_of 20 codes_at records.now }
 {
-    let mut tally = Tally::NONE;
-    let mut i = 0;
-    while i < records.len() / 20 {
-        tally = tally.with(case_at(records, 20 * i).is_met());
-        i += 1;
-    }
-    tally.ended(records.len() % 20)
+    check_records::compare(records.len(), 20, |at| case_at(records, at).is_met())
 }
 
 fn case_at(records: &[u8], at: usize) -> Case
     requires { at + 20 ≤ length records.now }
     ensures { result ≡ codes_case records.now at }
 {
+    let due = match u16_at(records, at + 4) {
+        0 => Ok((
+            fields::codes(records, at + 12),
+            fields::clips(records, at + 16),
+        )),
+        refusal => Err(u32::from(refusal)),
+    };
     Case {
         system: u32_at(records, at),
-        refusal: wide(u16_at(records, at + 4)),
-        words: fields::words(records, at + 6),
-        r: u16_at(records, at + 12),
-        b: u16_at(records, at + 14),
-        low: u16_at(records, at + 16),
-        high: u16_at(records, at + 18),
+        words: words_at(records, at + 6),
+        due,
     }
 }
 
@@ -52,13 +47,8 @@ impl Case {
     fn is_met(self) -> bool
         ensures { result ≡ codes_met self }
     {
-        match constant_luminance::codes_of_words(self.system, self.words) {
-            Decoded::Codes(found) => {
-                let codes = (found.codes.r == self.r) & (found.codes.b == self.b);
-                let clips = (found.clips.low == self.low) & (found.clips.high == self.high);
-                (self.refusal == 0) & (codes & clips)
-            }
-            Decoded::Refused(refusal) => refusal.number() == self.refusal,
-        }
+        let answer = constant_luminance::codes_of_words(self.system, self.words);
+        let found = answer.map(|clipped| (clipped.codes, clipped.clips));
+        found.map_err(Refusal::number) == self.due
     }
 }

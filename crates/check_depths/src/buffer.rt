@@ -9,13 +9,11 @@ fn before(place: usize) -> u8
     (100 + place % 151) as u8
 }
 
-// Puts it to each place.
+// Puts it to each place. check_blocks has one of codes: by a closure for what stands at a place one function would be longer.
 pub fn fill(lent: &mut [u8])
     ensures { lent.new ≡ filled (length lent.old) }
 {
-    let mut i = 0;
-    while i < lent.len() {
-        lent[i] = before(i);
-        i += 1;
+    for (i, place) in lent.iter_mut().enumerate() {
+        *place = before(i);
     }
 }

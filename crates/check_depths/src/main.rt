@@ -5,59 +5,28 @@
 mod buffer;
 mod cases;
 
-ghost use Rattle.std.specs.Prelude.{◌≡◌, length};
-
+use check_answers::Answer;
 use std::io;
 
+// The numbers of the answers that the files have.
+const CASES: [u32; 10] = [0, 1, 5, 6, 8, 9, 10, 11, 32, 33];
+
+const WORDS: [u32; 2] = [0, 33];
+
+const WIDEST: [u32; 3] = [0, 5, 33];
+
 fn main(rt: HostRuntime) -> io::Result<()> {
-    check_cases(&rt)?;
-    check_words(&rt)?;
-    check_widest(&rt)
+    check(&rt, "cases", &CASES, "")?;
+    check(&rt, "words", &WORDS, ", every word")?;
+    check(&rt, "widest", &WIDEST, ", widest")
 }
 
-// Room for any of the files.
-fn longest() -> [u8; 524288]
-    ensures { 524288 ≡ length result }
-{
-    zeros::<524288>()
-}
-
-// So many zeros, to read a file into.
-fn zeros<const N: usize>() -> [u8; N]
-    ensures { N ≡ length result }
-{
-    [0; N]
-}
-
-fn check_cases(rt: &HostRuntime) -> io::Result<()> {
-    let mut buf = longest();
-    let n = check_records::read(rt, "cases", &mut buf);
-    let data = &buf[..n];
-    cases::compare(data, 0).print(rt, "accepted:")?;
-    cases::compare(data, 1).print(rt, "refused 1:")?;
-    cases::compare(data, 5).print(rt, "refused 5:")?;
-    cases::compare(data, 6).print(rt, "refused 6:")?;
-    cases::compare(data, 8).print(rt, "refused 8:")?;
-    cases::compare(data, 9).print(rt, "refused 9:")?;
-    cases::compare(data, 10).print(rt, "refused 10:")?;
-    cases::compare(data, 11).print(rt, "refused 11:")?;
-    cases::compare(data, 32).print(rt, "refused 32:")?;
-    cases::compare(data, 33).print(rt, "refused 33:")
-}
-
-fn check_words(rt: &HostRuntime) -> io::Result<()> {
-    let mut buf = longest();
-    let n = check_records::read(rt, "words", &mut buf);
-    let data = &buf[..n];
-    cases::compare(data, 0).print(rt, "accepted, every word:")?;
-    cases::compare(data, 33).print(rt, "refused 33, every word:")
-}
-
-fn check_widest(rt: &HostRuntime) -> io::Result<()> {
-    let mut buf = longest();
-    let n = check_records::read(rt, "widest", &mut buf);
-    let data = &buf[..n];
-    cases::compare(data, 0).print(rt, "accepted, widest:")?;
-    cases::compare(data, 5).print(rt, "refused 5, widest:")?;
-    cases::compare(data, 33).print(rt, "refused 33, widest:")
+// Compares the cases of a file. The lines name the answer that is due, and of what it is.
+fn check(rt: &HostRuntime, path: &str, answers: &[u32], of: &str) -> io::Result<()> {
+    let cases = check_records::read(rt, path, 524288);
+    for number in answers {
+        let check = format!(in rt.alloc(); "{}{of}:", Answer(*number))?;
+        cases::compare(&cases, *number).print(rt, &check)?;
+    }
+    Ok(())
 }

@@ -1,32 +1,33 @@
 -- The records of the files that reference/make_levels.py makes, and whether the conversion agrees with them.
 -- Definitions only.
-use Rattle.std.specs.Prelude.{ℕ, ◌+◌, ◌*◌, Bool, ◌&&◌, List, eqb, pos, ◌-ℤ◌}
-use Rattle.std.specs.Int.{w32}
-use Rattle.std.proofs.Common.{of_z}
+use Rattle.std.specs.Prelude.{ℕ, ◌+◌, ◌*◌, ◌≡◌, Bool, false, ◌&&◌, cond, List, ◌==◌, pos, ◌-ℤ◌, Result, Ok, Err}
+use Rattle.std.specs.Ordering.{int_eq}
 use Rattle.exact.specs.Outcome.{Outcome, accepted, refused}
+use Rattle.systems.specs.declared.refusal.Refusal.{Refusal}
+use Rattle.systems.specs.Refusals.{outcome}
 use Rattle.levels.specs.declared.Level.{Level}
-use Rattle.levels.specs.Levels.{level_of_code, level_of_difference}
 use Rattle.check_records.specs.Records.{u16_at, u32_at}
-use Rattle.check_levels.specs.declared.case.Call.{Call}
-use Rattle.check_levels.specs.declared.case.Call.TheVariants.{OfCode, OfDifference}
 use Rattle.check_levels.specs.declared.case.Case.{Case}
 
-abbrev pub level_by : Call → ℕ → ℕ → Outcome Level
-level_by OfCode = level_of_code
-level_by OfDifference = level_of_difference
+-- a call's answers are these levels
+abbrev pub Gives : (ℕ → ℕ → Result Level Refusal → Type 0) → (ℕ → ℕ → Outcome Level) → Type 0
+Gives Answers level = (system code : ℕ) (answer : Result Level Refusal) → Answers system code answer → outcome answer ≡ level system code
 
--- the record of 12 bytes at a place, which has 1000 more than the millivolts
+-- the level from a place on, which has 1000 more than the millivolts, or the number of the refusal where that is not 0
+abbrev pub level_due : List ℕ → ℕ → Result Level ℕ
+level_due bs i = cond (u16_at bs i == 0) (Ok (record { millivolts = pos (u16_at bs (i + 2)) -ℤ pos 1000; remainder = u16_at bs (i + 4) })) (Err (u16_at bs i))
+
+-- the record of 12 bytes at a place
 abbrev pub level_case : List ℕ → ℕ → Case
-level_case bs i = record { system = u32_at bs i; code = u16_at bs (i + 4); refusal = u16_at bs (i + 6); millivolts = pos (u16_at bs (i + 8)) -ℤ pos 1000; remainder = u16_at bs (i + 10) }
+level_case bs i = record { system = u32_at bs i; code = u16_at bs (i + 4); due = level_due bs (i + 6) }
 
--- the call's answer is the record's: its level where the refusal is 0, millivolts being the same by their 32 bits; or its refusal
-abbrev pub level_agrees : Outcome Level → Case → Bool
-level_agrees (accepted l) c = eqb c.refusal 0 && (eqb (of_z w32 l.millivolts) (of_z w32 c.millivolts) && eqb l.remainder c.remainder)
-level_agrees (refused n) c = eqb n c.refusal
+-- the answer is the one that is due
+abbrev pub agrees : Outcome Level → Result Level ℕ → Bool
+agrees (accepted l) (Ok d) = int_eq l.millivolts d.millivolts && (l.remainder == d.remainder)
+agrees (accepted l) (Err n) = false
+agrees (refused k) (Ok d) = false
+agrees (refused k) (Err n) = k == n
 
-abbrev pub level_met : Call → Case → Bool
-level_met k c = level_agrees (level_by k c.system c.code) c
-
--- whether record i is met
-abbrev pub level_at : Call → List ℕ → ℕ → Bool
-level_at k bs i = level_met k (level_case bs (12 * i))
+-- whether record i is met by a call
+abbrev pub level_at : (ℕ → ℕ → Outcome Level) → List ℕ → ℕ → Bool
+level_at level bs i = let c = level_case bs (12 * i) in agrees (level c.system c.code) c.due

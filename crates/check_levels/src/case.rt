@@ -1,40 +1,50 @@
 // Levels, against the files 'codes' and 'differences'.
-ghost use Rattle.std.specs.Prelude.{◌≡◌, ◌+◌, ◌≤◌, pos, ◌-ℤ◌, length};
-ghost use Rattle.levels.specs.Levels.{level_outcome};
+ghost use Rattle.std.specs.Prelude.{ℕ, ◌+◌, ◌≡◌, ◌≤◌, pos, ◌-ℤ◌, length};
+ghost use Rattle.exact.specs.Outcome.{Outcome};
+ghost use Rattle.systems.specs.Refusals.{outcome};
+ghost use Rattle.levels.specs.declared.Level.{Level as TheLevel};
+ghost use Rattle.levels.specs.Levels.{level_of_code, level_of_difference};
 ghost use Rattle.check_records.specs.Records.{tally_of};
-ghost use Rattle.check_levels.specs.Cases.{level_by, level_case, level_met, level_at};
+ghost use Rattle.check_levels.specs.Cases.{Gives, level_case, level_due, agrees, level_at};
 
-use check_records::{Tally, u16_at, u32_at, wide};
-use levels::CodeLevel;
+use check_records::{Tally, u16_at, u32_at};
+use levels::Level;
+use systems::Refusal;
 
-// The call that a file has the answers of.
-#[derive(Clone, Copy)]
-pub enum Call {
-    OfCode,
-    OfDifference,
-}
-
-// One record: a code, and the level that it has in a system, or the number of the refusal.
+// One record: a code, and the level that is due for it in a system, or the number of the refusal.
 #[derive(Clone, Copy)]
 struct Case {
     system: u32,
     code: u16,
-    refusal: u32,
-    millivolts: i32,
-    remainder: u32,
+    due: Result<Level, u32>,
 }
 
-// Compares the call's answer for each record with it.
-pub fn compare(call: Call, records: &[u8]) -> Tally
-    ensures { result ≡ tally_of 12 (level_at call) records.now }
+// Compares the level of each record's code.
+pub fn compare_codes(records: &[u8]) -> Tally
+    ensures { result ≡ tally_of 12 (level_at level_of_code) records.now }
 {
-    let mut tally = Tally::NONE;
-    let mut i = 0;
-    while i < records.len() / 12 {
-        tally = tally.with(case_at(records, 12 * i).is_met(call));
-        i += 1;
-    }
-    tally.ended(records.len() % 12)
+    compare(levels::level_of_code, records)
+}
+
+// Compares the level of each record's word.
+pub fn compare_differences(records: &[u8]) -> Tally
+    ensures { result ≡ tally_of 12 (level_at level_of_difference) records.now }
+{
+    compare(levels::level_of_difference, records)
+}
+
+// Compares a call's answer for each record with it.
+fn compare<F: Fn(u32, u16) -> Result<Level, Refusal>>(level_of: F, records: &[u8]) -> Tally
+    requires { F.IsAlwaysCallable level_of }
+    ensures { (level : ℕ → ℕ → Outcome TheLevel) → Gives (F.post level_of) level → result ≡ tally_of 12 (level_at level) records.now }
+{
+    let is_met = |at: usize|
+        requires { (at + 12 ≤ length records.now) × F.IsAlwaysCallable level_of }
+    {
+        let case = case_at(records, at);
+        case.is_met(level_of(case.system, case.code))
+    };
+    check_records::compare(records.len(), 12, is_met)
 }
 
 fn case_at(records: &[u8], at: usize) -> Case
@@ -44,9 +54,20 @@ fn case_at(records: &[u8], at: usize) -> Case
     Case {
         system: u32_at(records, at),
         code: u16_at(records, at + 4),
-        refusal: wide(u16_at(records, at + 6)),
-        millivolts: less_1000(u16_at(records, at + 8)),
-        remainder: wide(u16_at(records, at + 10)),
+        due: due_at(records, at + 6),
+    }
+}
+
+fn due_at(records: &[u8], at: usize) -> Result<Level, u32>
+    requires { at + 6 ≤ length records.now }
+    ensures { result ≡ level_due records.now at }
+{
+    match u16_at(records, at) {
+        0 => Ok(Level {
+            millivolts: less_1000(u16_at(records, at + 2)),
+            remainder: u32::from(u16_at(records, at + 4)),
+        }),
+        refusal => Err(u32::from(refusal)),
     }
 }
 
@@ -54,30 +75,13 @@ fn case_at(records: &[u8], at: usize) -> Case
 fn less_1000(x: u16) -> i32
     ensures { result ≡ pos x -ℤ pos 1000 }
 {
-    x as i32 - 1000
-}
-
-impl Call {
-    fn level(self, system: u32, code: u16) -> CodeLevel
-        ensures { level_outcome result ≡ level_by self system code }
-    {
-        match self {
-            Call::OfCode => levels::level_of_code(system, code),
-            Call::OfDifference => levels::level_of_difference(system, code),
-        }
-    }
+    i32::from(x) - 1000
 }
 
 impl Case {
-    fn is_met(self, call: Call) -> bool
-        ensures { result ≡ level_met call self }
+    fn is_met(self, answer: Result<Level, Refusal>) -> bool
+        ensures { result ≡ agrees (outcome answer) self.due }
     {
-        match call.level(self.system, self.code) {
-            CodeLevel::Level(found) => {
-                let same = found.millivolts == self.millivolts;
-                (self.refusal == 0) & (same & (found.remainder == self.remainder))
-            }
-            CodeLevel::Refused(refusal) => refusal.number() == self.refusal,
-        }
+        answer.map_err(Refusal::number) == self.due
     }
 }

@@ -4,13 +4,14 @@
 
 mod case;
 
-use case::Call;
 use std::io;
 
+// A file of so many bytes or more is not read.
+const MOST: usize = 131072;
+
 fn main(rt: HostRuntime) -> io::Result<()> {
-    let mut buf = [0u8; 131072];
-    let n = check_records::read(&rt, "codes", &mut buf);
-    case::compare(Call::OfCode, &buf[..n]).print(&rt, "codes")?;
-    let m = check_records::read(&rt, "differences", &mut buf);
-    case::compare(Call::OfDifference, &buf[..m]).print(&rt, "differences")
+    let codes = check_records::read(&rt, "codes", MOST);
+    case::compare_codes(&codes).print(&rt, "codes")?;
+    let differences = check_records::read(&rt, "differences", MOST);
+    case::compare_differences(&differences).print(&rt, "differences")
 }

@@ -1,33 +1,31 @@
 // Lists each input of data/, which reference/make_listings.py makes, as rowlist does, each under its file's name.
 #![tactic(auto)]
 
+use std::io::{BufWriter, Write};
 use std::rt::Files;
 use std::{fs, io};
 
+const NAMES: [&str; 16] = [
+    "grey", "clipped", "low", "high", "both", "system2", "system3", "wide", "empty", "system",
+    "word", "end", "count", "row", "after", "long",
+];
+
 fn main(rt: HostRuntime) -> io::Result<()> {
-    list(&rt, "grey")?;
-    list(&rt, "clipped")?;
-    list(&rt, "low")?;
-    list(&rt, "high")?;
-    list(&rt, "both")?;
-    list(&rt, "system2")?;
-    list(&rt, "system3")?;
-    list(&rt, "wide")?;
-    list(&rt, "empty")?;
-    list(&rt, "system")?;
-    list(&rt, "word")?;
-    list(&rt, "end")?;
-    list(&rt, "count")?;
-    list(&rt, "row")?;
-    list(&rt, "after")?;
-    list(&rt, "long")
+    for name in NAMES {
+        list(&rt, name)?;
+    }
+    Ok(())
 }
 
 // A file that does not open is named on standard error, and the others are still listed.
-fn list(rt: &(impl Files + Print + Eprint), name: &str) -> io::Result<()> {
+fn list(rt: &(impl Files + Print + Eprint + Alloc), name: &str) -> io::Result<()> {
     println!(rt; "{name}:")?;
     match fs::open(rt, name) {
-        Ok(mut file) => listing::list(&mut file, &mut io::writer(rt)),
+        Ok(mut file) => {
+            let mut output = BufWriter::new(rt.alloc(), io::writer(rt))?;
+            listing::list(&mut file, &mut output)?;
+            output.flush()
+        }
         Err(e) => eprintln!(rt; "{name}: {e}"),
     }
 }

@@ -4,39 +4,19 @@
 
 mod list;
 mod read;
-mod slice;
 
-ghost use Rattle.std.specs.Prelude.{◌≡◌, length};
-
+use check_answers::Answer;
 use std::io;
 
+// The numbers of the answers that the data have.
+const ANSWERS: [u32; 8] = [0, 1, 5, 6, 8, 9, 10, 11];
+
 fn main(rt: HostRuntime) -> io::Result<()> {
-    let mut buf = zeros::<262144>();
-    let n = check_records::read(&rt, "blocks", &mut buf);
-    compare_file(&rt, &buf[..n])
-}
-
-// Compares the file 'reads', whose blocks are parts of these bytes.
-fn compare_file(rt: &HostRuntime, blocks: &[u8]) -> io::Result<()> {
-    let mut buf = zeros::<131072>();
-    let n = check_records::read(rt, "reads", &mut buf);
-    compare(rt, &buf[..n], blocks)
-}
-
-// So many zeros, to read a file into.
-fn zeros<const N: usize>() -> [u8; N]
-    ensures { N ≡ length result }
-{
-    [0; N]
-}
-
-fn compare(rt: &HostRuntime, reads: &[u8], blocks: &[u8]) -> io::Result<()> {
-    list::compare(reads, blocks, 0).print(rt, "accepted:")?;
-    list::compare(reads, blocks, 1).print(rt, "refused 1:")?;
-    list::compare(reads, blocks, 5).print(rt, "refused 5:")?;
-    list::compare(reads, blocks, 6).print(rt, "refused 6:")?;
-    list::compare(reads, blocks, 8).print(rt, "refused 8:")?;
-    list::compare(reads, blocks, 9).print(rt, "refused 9:")?;
-    list::compare(reads, blocks, 10).print(rt, "refused 10:")?;
-    list::compare(reads, blocks, 11).print(rt, "refused 11:")
+    let blocks = check_records::read(&rt, "blocks", 262144);
+    let reads = check_records::read(&rt, "reads", 131072);
+    for number in ANSWERS {
+        let check = format!(in rt.alloc(); "{}:", Answer(number))?;
+        list::compare(&reads, &blocks, number).print(&rt, &check)?;
+    }
+    Ok(())
 }

@@ -8,12 +8,12 @@ use Rattle.check_pictures.specs.declared.total.Case.{Case}
 
 -- the record of 14 bytes at a place
 abbrev pub total_case : List ℕ → ℕ → Case
-total_case bs i = record { refusal = u16_at bs i; width = u32_at bs (i + 2); height = u32_at bs (i + 6); bytes = u32_at bs (i + 10) }
+total_case bs i = record { answer = u16_at bs i; width = u32_at bs (i + 2); height = u32_at bs (i + 6); bytes = u32_at bs (i + 10) }
 
--- the call's answer is the record's: its bytes where the refusal is 0, or its refusal
+-- the call's answer is the record's: its bytes where the number is 0, or its refusal
 abbrev pub total_agrees : Outcome ℕ → Case → Bool
-total_agrees (accepted b) c = eqb c.refusal 0 && eqb b c.bytes
-total_agrees (refused n) c = eqb n c.refusal
+total_agrees (accepted b) c = eqb c.answer 0 && eqb b c.bytes
+total_agrees (refused n) c = eqb n c.answer
 
 abbrev pub total_met : Case → Bool
 total_met c = total_agrees (total_bytes c.width c.height) c

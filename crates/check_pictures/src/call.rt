@@ -1,64 +1,73 @@
 // A call of the lists: what it is given, and what it has to answer.
-ghost use Rattle.std.specs.Prelude.{◌≡◌, ◌+◌, ◌≤◌, length};
-ghost use Rattle.block.specs.Read.{header_outcome};
-ghost use Rattle.picture.specs.Picture.{picture_outcome};
-ghost use Rattle.check_pictures.specs.Calls.{call_at, is_of, block_length, size_of, room, row_answer, row_buffer, call_answer, buffer_of, agrees, same_header, read_as};
+ghost use Rattle.std.specs.Prelude.{◌≡◌, ◌+◌, ◌<◌, ◌≤◌, length, MatchOption};
+ghost use Rattle.systems.specs.Refusals.{outcome};
+ghost use Rattle.check_pictures.specs.Calls.{call_at, is_of, block_length, size_of, size_at, room, row_answer, row_buffer, call_answer, buffer_of, same_header, read_as};
 
-use block::{BlockRead, Header};
-use check_records::{u16_at, u32_at, wide};
-use picture::{Change, Picture};
+use crate::kind::Kind;
+use crate::list::Counted;
+use block::Header;
+use check_records::{u16_at, u32_at};
+use matrix::Clips;
+use picture::Picture;
 use systems::Refusal;
 
-// A list begins with a fresh picture.
-pub const NEW: u16 = 0;
-
-pub const OPEN: u16 = 1;
-
-pub const ROW: u16 = 2;
-
-pub const CLOSE: u16 = 3;
-
-// What stands before a call's block. An open is given the system, width and height, a row the place of its first light, how many
-// lights, and the length of its buffer.
+// What stands before a call's block. The answer is a number of the data's, which our refusals' numbers are compared with. An open is
+// given the system, width and height, a row the place of its first light, how many lights, and the length of its buffer.
 #[derive(Clone, Copy)]
 pub struct Call {
-    kind: u16,
-    refusal: u32,
+    kind: Option<Kind>,
+    pub answer: u32,
     pub rows: u16,
     system: u32,
     pub samples: u16,
     pub bytes: u32,
-    low: u16,
-    high: u16,
+    clips: Clips,
     first: u32,
     second: u32,
     third: u32,
 }
 
-pub fn call_at(calls: &[u8], at: usize) -> Call
-    requires { at + 30 ≤ length calls.now }
-    ensures { result ≡ call_at calls.now at }
-{
-    Call {
-        kind: u16_at(calls, at),
-        refusal: wide(u16_at(calls, at + 2)),
-        rows: u16_at(calls, at + 4),
-        system: wide(u16_at(calls, at + 6)),
-        samples: u16_at(calls, at + 8),
-        bytes: u32_at(calls, at + 10),
-        low: u16_at(calls, at + 14),
-        high: u16_at(calls, at + 16),
-        first: u32_at(calls, at + 18),
-        second: u32_at(calls, at + 22),
-        third: u32_at(calls, at + 26),
-    }
-}
-
 impl Call {
-    pub fn is_of(self, kind: u16, refusal: u32) -> bool
-        ensures { result ≡ is_of self kind refusal }
+    // The call at a place, if it is there whole.
+    pub fn at(calls: &[u8], at: usize) -> Option<Call>
+        requires { at ≤ length calls.now }
+        ensures { MatchOption result (length calls.now < at + size_at calls.now at) (λ call. (call ≡ call_at calls.now at) × (at + size_at calls.now at ≤ length calls.now)) }
     {
-        (self.kind == kind) & (self.refusal == refusal)
+        if calls.len() - at < 30 {
+            return None;
+        }
+        let call = Call::numbers(calls, at);
+        if at + call.size() > calls.len() {
+            return None;
+        }
+        Some(call)
+    }
+
+    fn numbers(calls: &[u8], at: usize) -> Call
+        requires { at + 30 ≤ length calls.now }
+        ensures { result ≡ call_at calls.now at }
+    {
+        Call {
+            kind: Kind::of(u16_at(calls, at)),
+            answer: u32::from(u16_at(calls, at + 2)),
+            rows: u16_at(calls, at + 4),
+            system: u32::from(u16_at(calls, at + 6)),
+            samples: u16_at(calls, at + 8),
+            bytes: u32_at(calls, at + 10),
+            clips: Clips {
+                low: u16_at(calls, at + 14),
+                high: u16_at(calls, at + 16),
+            },
+            first: u32_at(calls, at + 18),
+            second: u32_at(calls, at + 22),
+            third: u32_at(calls, at + 26),
+        }
+    }
+
+    pub fn is_of(self, counted: Counted) -> bool
+        ensures { result ≡ is_of self counted }
+    {
+        (self.kind == Some(counted.kind)) & (self.answer == counted.answer)
     }
 
     // The bytes of the block that is due, 0 where none is.
@@ -83,72 +92,59 @@ impl Call {
     pub fn room(self) -> usize
         ensures { result ≡ room self }
     {
-        if self.kind == ROW {
-            self.third as usize
-        } else {
-            0
+        match self.kind {
+            Some(Kind::Row) => self.third as usize,
+            _ => 0,
         }
     }
 
-    // Makes the call.
-    pub fn answer(self, picture: Picture, lights: &[u16], lent: &mut [u8]) -> Change
-        ensures result_value { picture_outcome result ≡ call_answer self picture lights.now lent.old }
+    // Makes the call. A kind that the data do not name begins a list too.
+    pub fn made(self, picture: Picture, lights: &[u16], lent: &mut [u8]) -> Result<Picture, Refusal>
+        ensures result_value { outcome result ≡ call_answer self picture lights.now lent.old }
         ensures lent_after { lent.new ≡ buffer_of self picture lights.now lent.old }
     {
-        let kind = self.kind;
-        match kind {
-            OPEN => picture.open(self.first, self.second, self.third),
-            ROW => self.row(picture, lights, lent),
-            CLOSE => picture.close(),
-            _ => Change::To(Picture::new()),
+        match self.kind {
+            Some(Kind::Open) => picture.open(self.first, self.second, self.third),
+            Some(Kind::Row) => self.row(picture, lights, lent),
+            Some(Kind::Close) => picture.close(),
+            Some(Kind::New) | None => Ok(Picture::new()),
         }
     }
 
     // A row whose lights or buffer are not there is answered as no picture answers.
-    fn row(self, picture: Picture, lights: &[u16], lent: &mut [u8]) -> Change
-        ensures result_value { picture_outcome result ≡ row_answer self picture lights.now lent.old }
+    fn row(self, picture: Picture, lights: &[u16], lent: &mut [u8]) -> Result<Picture, Refusal>
+        ensures result_value { outcome result ≡ row_answer self picture lights.now lent.old }
         ensures lent_after { lent.new ≡ row_buffer self picture lights.now lent.old }
     {
         let start = self.first as usize;
         let end = start + self.second as usize;
         let room = self.room();
-        if end > lights.len() {
-            return Change::Refused(Refusal::Signal);
-        }
-        if room > lent.len() {
-            return Change::Refused(Refusal::Signal);
+        if end > lights.len() || room > lent.len() {
+            return Err(Refusal::Signal);
         }
         picture.row(&lights[start..end], &mut lent[..room])
     }
 
-    pub fn has(self, answer: Change) -> bool
-        ensures { result ≡ agrees (picture_outcome answer) self }
-    {
-        match answer {
-            Change::To(_) => self.refusal == 0,
-            Change::Refused(refusal) => refusal.number() == self.refusal,
-        }
-    }
-
     // Whether reading answers with the row that this call was.
-    pub fn is_read(self, answer: BlockRead) -> bool
-        ensures { result ≡ read_as (header_outcome answer) self }
+    pub fn is_read(self, answer: Result<Header, Refusal>) -> bool
+        ensures { result ≡ read_as (outcome answer) self }
     {
         match answer {
-            BlockRead::Row(header) => self.is(header),
-            BlockRead::Refused(_) => false,
+            Ok(header) => self.is_row(header),
+            Err(_) => false,
         }
     }
 
     // The row number is that of the last row accepted.
-    fn is(self, header: Header) -> bool
+    fn is_row(self, header: Header) -> bool
         ensures { result ≡ same_header header self }
     {
-        let system = header.system;
-        (system.number() == self.system)
-            & (header.row as u32 + 1 == self.rows as u32)
-            & (header.samples == self.samples)
-            & (header.clips.low == self.low)
-            & (header.clips.high == self.high)
+        let found = (
+            header.system.number(),
+            u32::from(header.row) + 1,
+            header.samples,
+        );
+        let due = (self.system, u32::from(self.rows), self.samples);
+        (found == due) & (header.clips == self.clips)
     }
 }

@@ -3,61 +3,71 @@
 #![tactic(auto)]
 
 mod call;
-mod lights;
+mod kind;
 mod list;
 mod reading;
 mod total;
 
-ghost use Rattle.std.specs.Prelude.{◌≡◌, length};
+ghost use Rattle.std.specs.Prelude.{◌≡◌, ◌/◌, length, IfOk};
+ghost use Rattle.check_pictures.specs.Calls.{lights_to};
 
+use check_answers::Answer;
+use check_records::u16_at;
+use kind::Kind;
+use list::Counted;
+use std::alloc::{AllocError, Global};
 use std::io;
 
+// The numbers of the answers that the data have of each kind of call; a list begins with one that is accepted.
+const OPEN: [u32; 5] = [0, 21, 1, 2, 3];
+
+const ROW: [u32; 5] = [0, 22, 23, 4, 5];
+
+const CLOSE: [u32; 3] = [0, 22, 24];
+
 fn main(rt: HostRuntime) -> io::Result<()> {
-    let mut bytes = zeros::<65536>();
-    let n = check_records::read(&rt, "lights", &mut bytes);
-    compare_by(&rt, &bytes[..n])?;
-    compare_totals(&rt)
+    let bytes = check_records::read(&rt, "lights", 65536);
+    let lights = decode(rt.alloc(), &bytes)?;
+    let calls = check_records::read(&rt, "calls", 655360);
+    let begun = Counted {
+        kind: Kind::New,
+        answer: 0,
+    };
+    list::compare(&calls, &lights, begun).print(&rt, "new:")?;
+    compare(&rt, &calls, &lights, Kind::Open, &OPEN)?;
+    compare(&rt, &calls, &lights, Kind::Row, &ROW)?;
+    compare(&rt, &calls, &lights, Kind::Close, &CLOSE)?;
+    let totals = check_records::read(&rt, "totals", 16384);
+    total::compare(&totals).print(&rt, "totals:")
 }
 
-// Compares the file 'calls', whose rows are of these lights.
-fn compare_by(rt: &HostRuntime, bytes: &[u8]) -> io::Result<()> {
-    let mut lights = [0u16; 32768];
-    let count = lights::decode(bytes, &mut lights);
-    compare_file(rt, &lights[..count])
-}
-
-fn compare_file(rt: &HostRuntime, lights: &[u16]) -> io::Result<()> {
-    let mut buf = zeros::<655360>();
-    let n = check_records::read(rt, "calls", &mut buf);
-    compare(rt, &buf[..n], lights)
-}
-
-fn compare(rt: &HostRuntime, calls: &[u8], lights: &[u16]) -> io::Result<()> {
-    list::compare(calls, lights, call::NEW, 0).print(rt, "new:")?;
-    list::compare(calls, lights, call::OPEN, 0).print(rt, "open accepted:")?;
-    list::compare(calls, lights, call::OPEN, 21).print(rt, "open refused 21:")?;
-    list::compare(calls, lights, call::OPEN, 1).print(rt, "open refused 1:")?;
-    list::compare(calls, lights, call::OPEN, 2).print(rt, "open refused 2:")?;
-    list::compare(calls, lights, call::OPEN, 3).print(rt, "open refused 3:")?;
-    list::compare(calls, lights, call::ROW, 0).print(rt, "row accepted:")?;
-    list::compare(calls, lights, call::ROW, 22).print(rt, "row refused 22:")?;
-    list::compare(calls, lights, call::ROW, 23).print(rt, "row refused 23:")?;
-    list::compare(calls, lights, call::ROW, 4).print(rt, "row refused 4:")?;
-    list::compare(calls, lights, call::ROW, 5).print(rt, "row refused 5:")?;
-    list::compare(calls, lights, call::CLOSE, 0).print(rt, "close accepted:")?;
-    list::compare(calls, lights, call::CLOSE, 22).print(rt, "close refused 22:")?;
-    list::compare(calls, lights, call::CLOSE, 24).print(rt, "close refused 24:")
-}
-
-fn compare_totals(rt: &HostRuntime) -> io::Result<()> {
-    let mut buf = [0u8; 16384];
-    let n = check_records::read(rt, "totals", &mut buf);
-    total::compare(&buf[..n]).print(rt, "totals:")
-}
-
-// So many zeros, to read a file into.
-fn zeros<const N: usize>() -> [u8; N]
-    ensures { N ≡ length result }
+// The lights of the file 'lights', each of 2 bytes, of which each row is given a part.
+#[tactic(auto, unfolding(crate::specs::Calls::lights_to))]
+fn decode(alloc: Global, bytes: &[u8]) -> Result<Vec<u16>, AllocError>
+    ensures { IfOk result (λ lights. lights.items ≡ lights_to bytes.now (length bytes.now / 2)) }
 {
-    [0; N]
+    let mut lights = Vec::new(alloc);
+    for i in 0..bytes.len() / 2 {
+        lights.push(u16_at(bytes, 2 * i))?;
+    }
+    Ok(lights)
+}
+
+// Compares the calls of a kind, by the answer that is due.
+fn compare(
+    rt: &HostRuntime,
+    calls: &[u8],
+    lights: &[u16],
+    kind: Kind,
+    answers: &[u32],
+) -> io::Result<()> {
+    for number in answers {
+        let counted = Counted {
+            kind,
+            answer: *number,
+        };
+        let check = format!(in rt.alloc(); "{kind} {}:", Answer(*number))?;
+        list::compare(calls, lights, counted).print(rt, &check)?;
+    }
+    Ok(())
 }

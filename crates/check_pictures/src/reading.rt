@@ -1,6 +1,6 @@
 // Reading the block of an accepted row.
-ghost use Rattle.std.specs.Prelude.{◌≡◌, length};
-ghost use Rattle.check_pictures.specs.Calls.{near, is_due, due_to, read_into, read_met};
+ghost use Rattle.std.specs.Prelude.{◌≡◌};
+ghost use Rattle.check_pictures.specs.Calls.{near, is_due, are_due, read_into, read_met};
 
 use crate::call::Call;
 use check_records::u16_at;
@@ -33,30 +33,26 @@ fn reads(call: Call, block: &[u8], codes: &mut [u16], due: &[u8]) -> bool
 }
 
 fn are_due(codes: &[u16], due: &[u8]) -> bool
-    ensures { result ≡ due_to codes.now due.now (length codes.now) }
+    ensures { result ≡ are_due codes.now due.now }
 {
-    let mut all = true;
-    let mut i = 0;
-    while i < codes.len() {
-        all = all & is_due(codes[i], due, i);
-        i += 1;
-    }
-    all
+    codes
+        .iter()
+        .enumerate()
+        .all(|(i, code)| is_due(*code, due, i))
 }
 
 // Whether a code is the one that is due at its place, and within one of its light's. A place has the light's code, then that one.
 fn is_due(code: u16, due: &[u8], place: usize) -> bool
     ensures { result ≡ is_due code due.now place }
 {
-    if place < due.len() / 4 {
-        (code == u16_at(due, 4 * place + 2)) & is_near(code, u16_at(due, 4 * place))
-    } else {
-        false
+    if place >= due.len() / 4 {
+        return false;
     }
+    (code == u16_at(due, 4 * place + 2)) & is_near(code, u16_at(due, 4 * place))
 }
 
 fn is_near(code: u16, other: u16) -> bool
     ensures { result ≡ near code other }
 {
-    (code as u32 <= other as u32 + 1) & (other as u32 <= code as u32 + 1)
+    code.abs_diff(other) <= 1
 }

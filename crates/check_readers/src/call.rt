@@ -1,191 +1,168 @@
 // A call of the lists: what it is given, and what it has to give.
 ghost use Rattle.std.specs.Prelude.{◌≡◌, ◌+◌, ◌≤◌, length};
-ghost use Rattle.reader.specs.Reader.{taken_outcome};
-ghost use Rattle.check_readers.specs.Calls.{call_at, reader_for, is_at, is_left, leaving, opened, same_header, taken_as, slice_due, read_into, read_of, read, made};
+ghost use Rattle.systems.specs.Refusals.{outcome};
+ghost use Rattle.check_readers.specs.Calls.{given_at, call_at, is_left, opened, answered, taken_as, slice_due, read_into, read_of, read, made};
 
-use crate::slice;
-use block::Header;
-use check_records::{u16_at, u32_at, wide};
-use reader::{Change, Phase, Reader, RowRead};
+use crate::left::Left;
+use check_answers::{Due, number_of};
+use check_records::{u16_at, u32_at};
+use reader::{Reader, Taken};
+use systems::Refusal;
 
-const OPENING: u16 = 0;
+// The bytes of a record.
+pub const SIZE: usize = 32;
 
-// One record. A block's bytes are a part of the file 'blocks'; phase and next are those of the reader after the call.
+// A block, a part of the bytes of the file 'blocks', and how many places the slice has that is lent for its codes.
 #[derive(Clone, Copy)]
-pub struct Call {
-    begins: u16,
-    kind: u16,
-    height: u32,
+pub struct Block {
     start: u32,
     length: u16,
     places: u16,
-    pub refusal: u32,
-    system: u32,
-    row: u16,
-    samples: u16,
-    low: u16,
-    high: u16,
-    phase: u16,
-    next: u16,
 }
 
-// Whether a call gave what it has to give, and the reader after it.
+// What a call is given: the height to open the reader with, or a block to read.
 #[derive(Clone, Copy)]
-pub struct Made {
-    pub met: bool,
-    pub reader: Reader,
+pub enum Given {
+    Height(u32),
+    Block(Block),
 }
 
-pub fn call_at(calls: &[u8], at: usize) -> Call
-    requires { at + 32 ≤ length calls.now }
-    ensures { result ≡ call_at calls.now at }
-{
-    Call {
-        begins: u16_at(calls, at),
-        kind: u16_at(calls, at + 2),
-        height: u32_at(calls, at + 4),
-        start: u32_at(calls, at + 8),
-        length: u16_at(calls, at + 12),
-        places: u16_at(calls, at + 14),
-        refusal: wide(u16_at(calls, at + 16)),
-        system: wide(u16_at(calls, at + 18)),
-        row: u16_at(calls, at + 20),
-        samples: u16_at(calls, at + 22),
-        low: u16_at(calls, at + 24),
-        high: u16_at(calls, at + 26),
-        phase: u16_at(calls, at + 28),
-        next: u16_at(calls, at + 30),
+// One record. The answer is a number of the data's, which our refusals' numbers are compared with. left is how the call leaves the
+// reader.
+#[derive(Clone, Copy)]
+pub struct Call {
+    begins: bool,
+    given: Given,
+    pub answer: u32,
+    due: Due,
+    left: Option<Left>,
+}
+
+impl Given {
+    // The kind 0 is an opening, any other reads a block.
+    fn at(calls: &[u8], at: usize) -> Given
+        requires { at + 14 ≤ length calls.now }
+        ensures { result ≡ given_at calls.now at }
+    {
+        match u16_at(calls, at) {
+            0 => Given::Height(u32_at(calls, at + 2)),
+            _ => Given::Block(Block {
+                start: u32_at(calls, at + 6),
+                length: u16_at(calls, at + 10),
+                places: u16_at(calls, at + 12),
+            }),
+        }
     }
 }
 
 impl Call {
-    // Makes the call with the reader that the call before left.
-    pub fn made(self, reader: Reader, blocks: &[u8]) -> Made
-        ensures { result ≡ made self reader blocks.now }
+    pub fn at(calls: &[u8], at: usize) -> Call
+        requires { at + 32 ≤ length calls.now }
+        ensures { result ≡ call_at calls.now at }
     {
-        let given = self.reader_for(reader);
-        if self.kind == OPENING {
-            self.opened(given)
-        } else {
-            self.read(given, blocks)
+        Call {
+            begins: u16_at(calls, at) == 1,
+            given: Given::at(calls, at + 2),
+            answer: u32::from(u16_at(calls, at + 16)),
+            due: Due::at(calls, at + 18),
+            left: Left::of(u16_at(calls, at + 28), u16_at(calls, at + 30)),
         }
     }
 
-    // A list begins with a new reader.
-    fn reader_for(self, reader: Reader) -> Reader
-        ensures { result ≡ reader_for self reader }
+    // Makes the call with the reader that the call before left, and answers whether it gave what it has to give.
+    pub fn made(self, reader: &mut Reader, blocks: &[u8]) -> bool
+        ensures met { result ≡ (made self reader.old blocks.now).met }
+        ensures reader_after { reader.new ≡ (made self reader.old blocks.now).reader }
     {
-        if self.begins == 1 {
-            Reader::new()
-        } else {
-            reader
+        if self.begins {
+            *reader = Reader::new();
+        }
+        let answered = self.answered(reader, blocks);
+        answered & self.is_left(*reader)
+    }
+
+    fn answered(self, reader: &mut Reader, blocks: &[u8]) -> bool
+        ensures met { result ≡ (answered self reader.old blocks.now).met }
+        ensures reader_after { reader.new ≡ (answered self reader.old blocks.now).reader }
+    {
+        match self.given {
+            Given::Height(height) => self.opened(height, reader),
+            Given::Block(block) => self.read(block, reader, blocks),
         }
     }
 
     // Judged by its refusal. A refused reader stays.
-    fn opened(self, reader: Reader) -> Made
-        ensures { result ≡ opened self reader }
+    fn opened(self, height: u32, reader: &mut Reader) -> bool
+        ensures met { result ≡ (opened self height reader.old).met }
+        ensures reader_after { reader.new ≡ (opened self height reader.old).reader }
     {
-        match reader.open(self.height) {
-            Change::To(after) => self.leaving(self.refusal == 0, after),
-            Change::Refused(refusal) => self.leaving(refusal.number() == self.refusal, reader),
-        }
+        let answer = reader.open(height);
+        let number = number_of(&answer);
+        *reader = answer.unwrap_or(*reader);
+        number == self.answer
     }
 
     // Reads the block. A call whose block is not there differs, and leaves the reader.
-    fn read(self, reader: Reader, blocks: &[u8]) -> Made
-        ensures { result ≡ read self reader blocks.now }
+    fn read(self, block: Block, reader: &mut Reader, blocks: &[u8]) -> bool
+        ensures met { result ≡ (read self block reader.old blocks.now).met }
+        ensures reader_after { reader.new ≡ (read self block reader.old blocks.now).reader }
     {
-        let start = self.start as usize;
-        let end = start + self.length as usize;
-        if end > blocks.len() {
-            return Made { met: false, reader };
-        }
-        self.read_of(reader, &blocks[start..end])
+        let start = block.start as usize;
+        let end = start + block.length as usize;
+        let Some(bytes) = blocks.get(start..end) else {
+            return false;
+        };
+        self.read_of(block.places, reader, bytes)
     }
 
     // Lends two equal slices. They have room for any number of places, and no system has the code that they hold.
-    fn read_of(self, reader: Reader, block: &[u8]) -> Made
-        ensures { result ≡ read_of self reader block.now }
+    fn read_of(self, places: u16, reader: &mut Reader, bytes: &[u8]) -> bool
+        ensures met { result ≡ (read_of self places reader.old bytes.now).met }
+        ensures reader_after { reader.new ≡ (read_of self places reader.old bytes.now).reader }
     {
-        let mut lent = [40000u16; 65536];
-        let mut due = [40000u16; 65536];
-        let places = self.places as usize;
-        self.read_into(reader, block, &mut lent[..places], &mut due[..places])
+        let mut lent = [40000; 65536];
+        let mut due = [40000; 65536];
+        let places = places as usize;
+        self.read_into(reader, bytes, &mut lent[..places], &mut due[..places])
     }
 
     // Reads the block with the reader into a slice, which has to be left as the other one is due to be.
-    fn read_into(self, reader: Reader, block: &[u8], lent: &mut [u16], due: &mut [u16]) -> Made
-        ensures { result ≡ read_into self reader block.now lent.old due.old }
+    fn read_into(self, reader: &mut Reader, bytes: &[u8], lent: &mut [u16], due: &mut [u16]) -> bool
+        ensures met { result ≡ (read_into self reader.old bytes.now lent.old due.old).met }
+        ensures reader_after { reader.new ≡ (read_into self reader.old bytes.now lent.old due.old).reader }
     {
-        let answer = reader.read(block, lent);
-        self.read_due(block, due);
-        let taken = self.taken(reader, answer);
-        let after = taken.reader;
-        Made {
-            met: taken.met & slice::alike(lent, due),
-            reader: after,
-        }
+        let answer = reader.read(bytes, lent);
+        self.read_due(bytes, due);
+        let answered = self.taken(answer, reader);
+        answered & (*lent == *due)
     }
 
     // Reads the block without a reader where it has to be accepted. After a refusal the slice has to be as it was.
-    fn read_due(self, block: &[u8], due: &mut [u16])
-        ensures { due.new ≡ slice_due self block.now due.old }
+    fn read_due(self, bytes: &[u8], due: &mut [u16])
+        ensures { due.new ≡ slice_due self bytes.now due.old }
     {
-        if self.refusal == 0 {
-            block::read_block(block, due);
+        if self.answer == 0 {
+            let _ = block::read_block(bytes, due);
         }
     }
 
     // Judged by its header, or by its refusal. A refused reader stays.
-    fn taken(self, reader: Reader, answer: RowRead) -> Made
-        ensures { result ≡ taken_as self reader (taken_outcome answer) }
+    fn taken(self, answer: Result<Taken, Refusal>, reader: &mut Reader) -> bool
+        ensures met { result ≡ (taken_as self reader.old (outcome answer)).met }
+        ensures reader_after { reader.new ≡ (taken_as self reader.old (outcome answer)).reader }
     {
         match answer {
-            RowRead::Row(taken) => {
-                let after = taken.reader;
-                let header = taken.header;
-                self.leaving((self.refusal == 0) & self.is(header), after)
+            Ok(taken) => {
+                *reader = taken.reader;
+                (self.answer == 0) & (Due::from(taken.header) == self.due)
             }
-            RowRead::Refused(refusal) => self.leaving(refusal.number() == self.refusal, reader),
+            Err(refusal) => refusal.number() == self.answer,
         }
     }
 
-    fn is(self, header: Header) -> bool
-        ensures { result ≡ same_header header self }
-    {
-        let system = header.system;
-        (system.number() == self.system)
-            & (header.row == self.row)
-            & (header.samples == self.samples)
-            & (header.clips.low == self.low)
-            & (header.clips.high == self.high)
-    }
-
-    // After an answer that is due, or is not, the call is met where it leaves the reader that is due.
-    fn leaving(self, answered: bool, reader: Reader) -> Made
-        ensures { result ≡ leaving self answered reader }
-    {
-        Made {
-            met: answered & self.is_left(reader),
-            reader,
-        }
-    }
-
-    // The phases by the data's numbers. The next row is 0 where the reader is not reading.
     fn is_left(self, reader: Reader) -> bool
         ensures { result ≡ is_left self reader.phase }
     {
-        match reader.phase() {
-            Phase::Unopened => self.is_at(0, 0),
-            Phase::Reading(p) => self.is_at(1, p.next),
-            Phase::Complete => self.is_at(2, 0),
-        }
-    }
-
-    fn is_at(self, phase: u16, next: u16) -> bool
-        ensures { result ≡ is_at self phase next }
-    {
-        (phase == self.phase) & (next == self.next)
+        self.left == Some(Left::from(reader.phase()))
     }
 }

@@ -2,50 +2,44 @@
 ghost use Rattle.std.specs.Prelude.{◌≡◌};
 ghost use Rattle.check_readers.specs.Calls.{after_call, CallsCompared};
 
-use crate::call;
-use crate::call::Call;
+use crate::call::{Call, SIZE};
 use check_records::Tally;
 use reader::Reader;
 
-// The reader that the calls so far left, and their tally.
+// The reader that the calls so far left, and their tally. A type of its own beside check_meters': another state and another call.
 #[derive(Clone, Copy)]
 struct Play {
     reader: Reader,
     tally: Tally,
 }
 
-// Makes the calls in order, each with the reader that the one before left, and compares those in which this refusal is due, or for 0
-// those that are accepted. A call that is cut off differs.
-pub fn compare(calls: &[u8], blocks: &[u8], refusal: u32) -> Tally
-    ensures { CallsCompared calls.now blocks.now refusal result }
+// Makes the calls in order, each with the reader that the one before left, and compares those in which the answer of this number is
+// due. A call that is cut off differs.
+pub fn compare(calls: &[u8], blocks: &[u8], number: u32) -> Tally
+    ensures { CallsCompared calls.now blocks.now number result }
 {
     let mut play = Play {
         reader: Reader::new(),
         tally: Tally::NONE,
     };
-    let mut at = 0;
-    while at + 32 <= calls.len() {
-        play = play.with(call::call_at(calls, at), blocks, refusal);
-        at += 32;
+    for i in 0..calls.len() / SIZE {
+        play = play.with(Call::at(calls, SIZE * i), blocks, number);
     }
-    play.tally.ended(calls.len() - at)
+    play.tally.ended(calls.len() % SIZE)
 }
 
 impl Play {
-    // One call more. It counts where its refusal is the one in question.
-    fn with(self, call: Call, blocks: &[u8], refusal: u32) -> Play
-        ensures { result ≡ after_call call blocks.now refusal self }
+    // One call more. It counts where the answer in question is due.
+    fn with(self, call: Call, blocks: &[u8], number: u32) -> Play
+        ensures { result ≡ after_call call blocks.now number self }
     {
-        let tally = self.tally;
-        let made = call.made(self.reader, blocks);
-        let reader = made.reader;
-        if call.refusal == refusal {
-            Play {
-                reader,
-                tally: tally.with(made.met),
-            }
+        let mut reader = self.reader;
+        let met = call.made(&mut reader, blocks);
+        let tally = if call.answer == number {
+            self.tally.with(met)
         } else {
-            Play { reader, tally }
-        }
+            self.tally
+        };
+        Play { reader, tally }
     }
 }

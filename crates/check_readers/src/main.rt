@@ -3,44 +3,21 @@
 #![tactic(auto)]
 
 mod call;
+mod left;
 mod list;
-mod slice;
 
-ghost use Rattle.std.specs.Prelude.{◌≡◌, length};
-
+use check_answers::Answer;
 use std::io;
 
+// The numbers of the answers that the data have.
+const ANSWERS: [u32; 12] = [0, 1, 3, 5, 6, 8, 9, 10, 11, 34, 35, 36];
+
 fn main(rt: HostRuntime) -> io::Result<()> {
-    let mut buf = zeros::<262144>();
-    let n = check_records::read(&rt, "blocks", &mut buf);
-    compare_file(&rt, &buf[..n])
-}
-
-// Compares the file 'calls', whose blocks are parts of these bytes.
-fn compare_file(rt: &HostRuntime, blocks: &[u8]) -> io::Result<()> {
-    let mut buf = zeros::<131072>();
-    let n = check_records::read(rt, "calls", &mut buf);
-    compare(rt, &buf[..n], blocks)
-}
-
-// So many zeros, to read a file into.
-fn zeros<const N: usize>() -> [u8; N]
-    ensures { N ≡ length result }
-{
-    [0; N]
-}
-
-fn compare(rt: &HostRuntime, calls: &[u8], blocks: &[u8]) -> io::Result<()> {
-    list::compare(calls, blocks, 0).print(rt, "accepted:")?;
-    list::compare(calls, blocks, 1).print(rt, "refused 1:")?;
-    list::compare(calls, blocks, 3).print(rt, "refused 3:")?;
-    list::compare(calls, blocks, 5).print(rt, "refused 5:")?;
-    list::compare(calls, blocks, 6).print(rt, "refused 6:")?;
-    list::compare(calls, blocks, 8).print(rt, "refused 8:")?;
-    list::compare(calls, blocks, 9).print(rt, "refused 9:")?;
-    list::compare(calls, blocks, 10).print(rt, "refused 10:")?;
-    list::compare(calls, blocks, 11).print(rt, "refused 11:")?;
-    list::compare(calls, blocks, 34).print(rt, "refused 34:")?;
-    list::compare(calls, blocks, 35).print(rt, "refused 35:")?;
-    list::compare(calls, blocks, 36).print(rt, "refused 36:")
+    let blocks = check_records::read(&rt, "blocks", 262144);
+    let calls = check_records::read(&rt, "calls", 131072);
+    for number in ANSWERS {
+        let check = format!(in rt.alloc(); "{}:", Answer(number))?;
+        list::compare(&calls, &blocks, number).print(&rt, &check)?;
+    }
+    Ok(())
 }

@@ -1,11 +1,7 @@
 -- What the programs that compare go by: the numbers in the files of data, the count of comparisons, and nominal codes.
 -- Definitions only.
-use Rattle.std.specs.Prelude.{ℕ, zero, suc, ◌+◌, ◌*◌, ◌-◌, ◌/◌, ◌%◌, ◌^◌, ◌≤◌, ◌<◌, min, ◌≡◌, Bool, true, false, ◌&&◌, cond, List, eqb, leb, length, get_or, take}
+use Rattle.std.specs.Prelude.{ℕ, zero, suc, ◌+◌, ◌*◌, ◌-◌, ◌/◌, ◌%◌, ◌^◌, ◌≤◌, ◌<◌, min, ◌≡◌, Bool, true, false, ◌&&◌, cond, List, eqb, leb, length, get_or}
 use Rattle.check_records.specs.declared.tally.Tally.{Tally}
-
--- `&xs[..n]` is in bounds and has n bytes
-abbrev pub IsPrefixLen : ℕ → List ℕ → Type 0
-IsPrefixLen n xs = (n ≤ length xs) × (n ≡ length (take n xs))
 
 -- the 16-bit number at a place, low byte first
 abbrev pub u16_at : List ℕ → ℕ → ℕ
@@ -44,9 +40,17 @@ tally_to same (suc n) = tallied (tally_to same n) (same n)
 unfoldable pub ended : Tally → ℕ → Tally
 ended t left = cond (eqb left 0) t (tallied t false)
 
+-- of so many bytes in records of a size: what is told of the place of each is `same` of its number
+abbrev pub TellsEach : (ℕ → Bool → Type 0) → ℕ → ℕ → (ℕ → Bool) → Type 0
+TellsEach Told bytes size same = (i : ℕ) (told : Bool) → i < bytes / size → Told (size * i) told → told ≡ same i
+
+-- their tally
+abbrev pub tally_by : ℕ → ℕ → (ℕ → Bool) → Tally
+tally_by bytes size same = ended (tally_to same (bytes / size)) (bytes % size)
+
 -- the tally of data in records of a size
 abbrev pub tally_of : ℕ → (List ℕ → ℕ → Bool) → List ℕ → Tally
-tally_of size same bs = ended (tally_to (same bs) (length bs / size)) (length bs % size)
+tally_of size same bs = tally_by (length bs) size (same bs)
 
 -- ---- records of any size, one behind the other; size has the bytes of the one at a place
 

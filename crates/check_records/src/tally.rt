@@ -1,8 +1,8 @@
 // The count of a check's comparisons.
-ghost use Rattle.std.specs.Prelude.{◌≡◌};
-ghost use Rattle.check_records.specs.Records.{more, tallied, ended};
+ghost use Rattle.std.specs.Prelude.{ℕ, ◌+◌, ◌≡◌, ◌<◌, ◌≤◌, Bool};
+ghost use Rattle.check_records.specs.Records.{tallied, ended, tally_by, TellsEach};
 
-use std::io;
+use std::{fmt, io};
 
 #[derive(Clone, Copy)]
 pub struct Tally {
@@ -16,15 +16,17 @@ impl Tally {
         differ: 0,
     };
 
-    // One comparison more.
+    // One comparison more. The greatest counts stay, so that none begins anew.
     #[tactic(auto, unfolding(crate::specs::Records::tallied))]
     pub fn with(self, same: bool) -> Tally
         ensures { result ≡ tallied self same }
     {
-        let compared = more(self.compared);
-        let one_more = more(self.differ);
+        let one_more = self.differ.saturating_add(1);
         let differ = if same { self.differ } else { one_more };
-        Tally { compared, differ }
+        Tally {
+            compared: self.compared.saturating_add(1),
+            differ,
+        }
     }
 
     // The end of the data, of which so many bytes are left: a case that is cut off differs.
@@ -37,16 +39,26 @@ impl Tally {
 
     // Writes a line such as 'spans 5479 compared, 0 differ'.
     pub fn print(self, rt: &impl Print, check: &str) -> io::Result<()> {
-        println!(rt;
-            "{check} {} compared, {} differ",
-            self.compared, self.differ
-        )
+        println!(rt; "{check} {self}")
     }
 }
 
-// One more than a count. The greatest stays, so that no count begins anew.
-fn more(count: u64) -> u64
-    ensures { result ≡ more count }
+impl fmt::Display for Tally {
+    fn fmt<W: fmt::Write>(&self, f: &mut fmt::Formatter<W>) -> fmt::Result {
+        write!(f, "{} compared, {} differ", self.compared, self.differ)
+    }
+}
+
+// The tally of so many bytes of records of a size, by whether the one at a place is met.
+#[tactic(auto, unfolding(crate::specs::Records::tally_to))]
+pub fn compare<F: Fn(usize) -> bool>(bytes: usize, size: usize, is_met: F) -> Tally
+    requires some { 0 < size }
+    requires callable { (at : ℕ) → at + size ≤ bytes → F.pre is_met at }
+    ensures { (same : ℕ → Bool) → TellsEach (F.post is_met) bytes size same → result ≡ tally_by bytes size same }
 {
-    if count < u64::MAX { count + 1 } else { count }
+    let mut tally = Tally::NONE;
+    for i in 0..bytes / size {
+        tally = tally.with(is_met(size * i));
+    }
+    tally.ended(bytes % size)
 }

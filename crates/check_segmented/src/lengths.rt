@@ -1,31 +1,25 @@
 // Which lengths are accepted, against the file 'lengths'.
 ghost use Rattle.std.specs.Prelude.{◌≡◌, ◌+◌, ◌≤◌, length};
 ghost use Rattle.check_records.specs.Records.{tally_of};
-ghost use Rattle.check_segmented.specs.Cases.{case_at, due_byte, lengths_met, lengths_at};
+ghost use Rattle.check_segmented.specs.Cases.{due, case_at, due_byte, lengths_met, lengths_at};
 
 use crate::moving::{FILLED, ROOM, is_moved};
 use check_records::{Tally, u32_at};
 use segmented::Order;
 
-// One record: the lengths of two buffers, and the refusal that is due, or 0.
+// One record: the lengths of two buffers, and whether they are accepted, or the number of the refusal that is due.
 #[derive(Clone, Copy)]
 struct Case {
     from: u32,
     to: u32,
-    refusal: u32,
+    due: Result<(), u32>,
 }
 
 // Compares the answer for each record with it.
 pub fn compare(records: &[u8], order: Order) -> Tally
     ensures { result ≡ tally_of 12 (lengths_at order) records.now }
 {
-    let mut tally = Tally::NONE;
-    let mut i = 0;
-    while i < records.len() / 12 {
-        tally = tally.with(case_at(records, 12 * i).is_met(order));
-        i += 1;
-    }
-    tally.ended(records.len() % 12)
+    check_records::compare(records.len(), 12, |at| case_at(records, at).is_met(order))
 }
 
 fn case_at(records: &[u8], at: usize) -> Case
@@ -35,8 +29,15 @@ fn case_at(records: &[u8], at: usize) -> Case
     Case {
         from: u32_at(records, at),
         to: u32_at(records, at + 4),
-        refusal: u32_at(records, at + 8),
+        due: due(u32_at(records, at + 8)),
     }
+}
+
+// What a record's number says: 0 that the call is accepted.
+fn due(number: u32) -> Result<(), u32>
+    ensures { result ≡ due number }
+{
+    if number == 0 { Ok(()) } else { Err(number) }
 }
 
 impl Case {
@@ -45,17 +46,20 @@ impl Case {
         ensures { result ≡ lengths_met order self }
     {
         let zeros = [0u8; ROOM];
-        let due = [due_byte(self.refusal); ROOM];
+        let due = [due_byte(self.due); ROOM];
         let from = self.from as usize;
         if from > zeros.len() {
             return false;
         }
-        is_moved(order, self.refusal, &zeros[..from], &due, self.to as usize)
+        is_moved(order, self.due, &zeros[..from], &due, self.to as usize)
     }
 }
 
-fn due_byte(refusal: u32) -> u8
-    ensures { result ≡ due_byte refusal }
+fn due_byte(due: Result<(), u32>) -> u8
+    ensures { result ≡ due_byte due }
 {
-    if refusal == 0 { 0 } else { FILLED }
+    match due {
+        Ok(()) => 0,
+        Err(_) => FILLED,
+    }
 }

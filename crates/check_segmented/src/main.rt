@@ -18,14 +18,12 @@ fn main(rt: HostRuntime) -> io::Result<()> {
 }
 
 fn check_lengths(rt: &HostRuntime) -> io::Result<()> {
-    let mut buf = [0u8; 4096];
-    let n = check_records::read(rt, "lengths", &mut buf);
-    lengths::compare(&buf[..n], Order::Segmented).print(rt, "lengths, to segmented:")?;
-    lengths::compare(&buf[..n], Order::Progressive).print(rt, "lengths, to progressive:")
+    let records = check_records::read(rt, "lengths", 4096);
+    lengths::compare(&records, Order::Segmented).print(rt, "lengths, to segmented:")?;
+    lengths::compare(&records, Order::Progressive).print(rt, "lengths, to progressive:")
 }
 
 fn check_rows(rt: &HostRuntime, file: &str, check: &str) -> io::Result<()> {
-    let mut buf = [0u8; 16384];
-    let n = check_records::read(rt, file, &mut buf);
-    rows::compare(&buf[..n]).print(rt, check)
+    let rows = check_records::read(rt, file, 16384);
+    rows::compare(&rows).print(rt, check)
 }

@@ -10,8 +10,20 @@ use segmented::Order;
 pub fn compare(rows: &[u8]) -> Tally
     ensures { result ≡ rows_compared rows.now }
 {
-    let half = rows.len() / 2;
-    let there = is_moved(Order::Segmented, 0, &rows[..half], &rows[half..], half);
-    let back = is_moved(Order::Progressive, 0, &rows[half..], &rows[..half], half);
+    let (progressive, segmented) = rows.split_at(rows.len() / 2);
+    let there = is_moved(
+        Order::Segmented,
+        Ok(()),
+        progressive,
+        segmented,
+        progressive.len(),
+    );
+    let back = is_moved(
+        Order::Progressive,
+        Ok(()),
+        segmented,
+        progressive,
+        progressive.len(),
+    );
     Tally::NONE.with(there).with(back)
 }

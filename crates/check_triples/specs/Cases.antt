@@ -1,6 +1,6 @@
 -- The records of the files that reference/make_triples.py makes, and whether the conversion agrees with them.
 -- Definitions only.
-use Rattle.std.specs.Prelude.{ℕ, ◌+◌, ◌*◌, ◌/◌, ◌%◌, Bool, false, ◌&&◌, List, eqb, get_or}
+use Rattle.std.specs.Prelude.{ℕ, ◌+◌, ◌*◌, ◌/◌, ◌%◌, Bool, false, ◌&&◌, cond, List, eqb, get_or, Result, Ok, Err}
 use Rattle.exact.specs.Outcome.{Outcome, accepted, refused}
 use Rattle.systems.specs.declared.Codes.{Codes}
 use Rattle.matrix.specs.declared.Clipped.{Clipped}
@@ -10,52 +10,53 @@ use Rattle.matrix.specs.declared.Limited.{Limited}
 use Rattle.matrix.specs.declared.Words.{Words}
 use Rattle.matrix.specs.Triples.{words_of_codes, codes_of_words}
 use Rattle.check_records.specs.Records.{u16_at, u32_at}
+use Rattle.check_samples.specs.Samples.{words_in, codes_in}
 use Rattle.check_triples.specs.declared.codes.Case.{Case as CodesCase}
 use Rattle.check_triples.specs.declared.words.Case.{Case as WordsCase}
 
 abbrev pub same_words : Words → Words → Bool
-same_words w v = eqb w.y v.y && eqb w.cb v.cb && eqb w.cr v.cr
+same_words w v = eqb w.y v.y && (eqb w.cb v.cb && eqb w.cr v.cr)
 
 abbrev pub same_codes : Codes → Codes → Bool
-same_codes c d = eqb c.r d.r && eqb c.g d.g && eqb c.b d.b
+same_codes c d = eqb c.r d.r && (eqb c.g d.g && eqb c.b d.b)
 
--- three numbers from a place on
-abbrev pub words_in : List ℕ → ℕ → Words
-words_in bs i = record { y = u16_at bs i; cb = u16_at bs (i + 2); cr = u16_at bs (i + 4) }
+-- codes to words: the record of 20 bytes at a place, with the words and moved count that are due, or the number of the refusal where
+-- that is not 0
+abbrev pub words_due : List ℕ → ℕ → Result Limited ℕ
+words_due bs i = let n = u16_at bs (i + 4) in cond (eqb n 0) (Ok (record { words = words_in bs (i + 12); moved = u16_at bs (i + 18) })) (Err n)
 
-abbrev pub codes_in : List ℕ → ℕ → Codes
-codes_in bs i = record { r = u16_at bs i; g = u16_at bs (i + 2); b = u16_at bs (i + 4) }
-
--- codes to words: the record of 20 bytes at a place
 abbrev pub words_case : List ℕ → ℕ → WordsCase
-words_case bs i = record { system = u32_at bs i; refusal = u16_at bs (i + 4); codes = codes_in bs (i + 6); words = words_in bs (i + 12); count = u16_at bs (i + 18) }
+words_case bs i = record { system = u32_at bs i; codes = codes_in bs (i + 6); due = words_due bs i }
 
--- the call's answer is the record's: its words and moved count where the refusal is 0, or its refusal
-abbrev pub words_agree : Outcome Limited → WordsCase → Bool
-words_agree (accepted l) c = eqb c.refusal 0 && (eqb l.moved c.count && same_words l.words c.words)
-words_agree (refused n) c = eqb n c.refusal
+-- the call's answer is the one that is due
+abbrev pub words_agree : Outcome Limited → Result Limited ℕ → Bool
+words_agree (accepted l) (Ok d) = same_words l.words d.words && eqb l.moved d.moved
+words_agree (accepted l) (Err n) = false
+words_agree (refused k) (Ok d) = false
+words_agree (refused k) (Err n) = eqb k n
 
 abbrev pub words_met : Encoding → WordsCase → Bool
-words_met e c = words_agree (words_of_codes c.system e c.codes) c
+words_met e c = words_agree (words_of_codes c.system e c.codes) c.due
 
--- words to codes: the record of 22 bytes at a place
+-- words to codes: the record of 22 bytes at a place, with the codes and clips that are due, or the number of the refusal where that is
+-- not 0
+abbrev pub codes_due : List ℕ → ℕ → Result Clipped ℕ
+codes_due bs i =
+    let n = u16_at bs (i + 4) in
+    cond (eqb n 0) (Ok (record { codes = codes_in bs (i + 12); clips = record { low = u16_at bs (i + 18); high = u16_at bs (i + 20) } })) (Err n)
+
 abbrev pub codes_case : List ℕ → ℕ → CodesCase
-codes_case bs i = record {
-  system = u32_at bs i;
-  refusal = u16_at bs (i + 4);
-  words = words_in bs (i + 6);
-  codes = codes_in bs (i + 12);
-  low = u16_at bs (i + 18);
-  high = u16_at bs (i + 20);
-}
+codes_case bs i = record { system = u32_at bs i; words = words_in bs (i + 6); due = codes_due bs i }
 
--- the call's answer is the record's: its codes and its clips low and high where the refusal is 0, or its refusal
-abbrev pub codes_agree : Outcome Clipped → CodesCase → Bool
-codes_agree (accepted d) c = eqb c.refusal 0 && (eqb d.clips.low c.low && eqb d.clips.high c.high && same_codes d.codes c.codes)
-codes_agree (refused n) c = eqb n c.refusal
+-- the call's answer is the one that is due
+abbrev pub codes_agree : Outcome Clipped → Result Clipped ℕ → Bool
+codes_agree (accepted c) (Ok d) = same_codes c.codes d.codes && (eqb c.clips.low d.clips.low && eqb c.clips.high d.clips.high)
+codes_agree (accepted c) (Err n) = false
+codes_agree (refused k) (Ok d) = false
+codes_agree (refused k) (Err n) = eqb k n
 
 abbrev pub codes_met : CodesCase → Bool
-codes_met c = codes_agree (codes_of_words c.system c.words) c
+codes_met c = codes_agree (codes_of_words c.system c.words) c.due
 
 -- the grid of 40 levels a side, where B' changes fastest: the code of a level, which counts again from 0 after the last, and the
 -- triple at a place

@@ -1,13 +1,12 @@
 // Words of the nominal codes on a grid of system 1, of which no rule moves one, against the file 'grid'.
-ghost use Rattle.std.specs.Prelude.{◌≡◌, ◌+◌, ◌≤◌, length};
+ghost use Rattle.std.specs.Prelude.{◌+◌, ◌≡◌, ◌≤◌, length};
 ghost use Rattle.matrix.specs.declared.Encoding.TheVariants.{Plain};
 ghost use Rattle.matrix.specs.Triples.{words_of_codes};
 ghost use Rattle.check_records.specs.Records.{tally_of};
 ghost use Rattle.check_triples.specs.Cases.{level, grid_codes, grid_words, gives, grid_at};
 
-use crate::same;
 use check_records::Tally;
-use matrix::{Encoded, Encoding, Words};
+use matrix::{Encoding, Words};
 use systems::Codes;
 
 // Levels a side.
@@ -17,13 +16,9 @@ const LEVELS: usize = 40;
 pub fn compare(records: &[u8]) -> Tally
     ensures { result ≡ tally_of 3 grid_at records.now }
 {
-    let mut tally = Tally::NONE;
-    let mut i = 0;
-    while i < records.len() / 3 {
-        tally = tally.with(has_words(codes_at(i), words_at(records, 3 * i)));
-        i += 1;
-    }
-    tally.ended(records.len() % 3)
+    check_records::compare(records.len(), 3, |at| {
+        has_words(codes_at(at / 3), words_at(records, at))
+    })
 }
 
 // The triple at a place of the grid, where B' changes fastest.
@@ -49,23 +44,17 @@ fn words_at(records: &[u8], at: usize) -> Words
     ensures { result ≡ grid_words records.now at }
 {
     Words {
-        y: wide(records[at]),
-        cb: wide(records[at + 1]),
-        cr: wide(records[at + 2]),
+        y: u16::from(records[at]),
+        cb: u16::from(records[at + 1]),
+        cr: u16::from(records[at + 2]),
     }
-}
-
-fn wide(byte: u8) -> u16
-    ensures { result ≡ byte }
-{
-    byte as u16
 }
 
 fn has_words(codes: Codes, words: Words) -> bool
     ensures { result ≡ gives (words_of_codes 1 Plain codes) words }
 {
     match matrix::words_of_codes(1, Encoding::Plain, codes) {
-        Encoded::Words(found) => (found.moved == 0) & same::words(found.words, words),
-        Encoded::Refused(_) => false,
+        Ok(found) => found.moved == 0 && found.words == words,
+        Err(_) => false,
     }
 }

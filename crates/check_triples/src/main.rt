@@ -3,16 +3,19 @@
 #![tactic(auto)]
 
 mod codes;
-mod fields;
 mod grid;
-mod same;
 mod words;
-
-ghost use Rattle.std.specs.Prelude.{◌≡◌, length};
 
 use matrix::Encoding;
 use std::io;
 use std::rt::Files;
+
+// Files of so many bytes or more are not read: words, codes, and refusals.
+const MOST_WORDS: usize = 262144;
+
+const MOST_CODES: usize = 524288;
+
+const MOST_REFUSALS: usize = 4096;
 
 fn main(rt: HostRuntime) -> io::Result<()> {
     check_grid(&rt)?;
@@ -21,41 +24,30 @@ fn main(rt: HostRuntime) -> io::Result<()> {
     check_refusals(&rt)
 }
 
-fn check_grid(rt: &(impl Files + Print)) -> io::Result<()> {
-    let mut buf = [0u8; 262144];
-    let n = check_records::read(rt, "grid", &mut buf);
-    grid::compare(&buf[..n]).print(rt, "grid")
+fn check_grid(rt: &(impl Files + AllocGlobal + Print)) -> io::Result<()> {
+    let grid = check_records::read(rt, "grid", MOST_WORDS);
+    grid::compare(&grid).print(rt, "grid")
 }
 
-fn check_words(rt: &(impl Files + Print)) -> io::Result<()> {
-    let mut buf = [0u8; 262144];
-    let n = check_records::read(rt, "words", &mut buf);
-    words::compare(Encoding::Plain, &buf[..n]).print(rt, "words")?;
-    let m = check_records::read(rt, "trimmed", &mut buf);
-    words::compare(Encoding::Trim, &buf[..m]).print(rt, "words trimmed")?;
+fn check_words(rt: &(impl Files + AllocGlobal + Print)) -> io::Result<()> {
+    let plain = check_records::read(rt, "words", MOST_WORDS);
+    words::compare(Encoding::Plain, &plain).print(rt, "words")?;
+    let trimmed = check_records::read(rt, "trimmed", MOST_WORDS);
+    words::compare(Encoding::Trim, &trimmed).print(rt, "words trimmed")?;
     // The answers with the guard before trim: those with a colour word beyond video data differ.
-    let k = check_records::read(rt, "formerly_trimmed", &mut buf);
-    words::compare(Encoding::Trim, &buf[..k]).print(rt, "words formerly trimmed")
+    let formerly = check_records::read(rt, "formerly_trimmed", MOST_WORDS);
+    words::compare(Encoding::Trim, &formerly).print(rt, "words formerly trimmed")
 }
 
-fn check_codes(rt: &(impl Files + Print)) -> io::Result<()> {
-    let mut buf = zeros::<524288>();
-    let n = check_records::read(rt, "codes", &mut buf);
-    codes::compare(&buf[..n]).print(rt, "codes")
+fn check_codes(rt: &(impl Files + AllocGlobal + Print)) -> io::Result<()> {
+    let codes = check_records::read(rt, "codes", MOST_CODES);
+    codes::compare(&codes).print(rt, "codes")
 }
 
-fn check_refusals(rt: &(impl Files + Print)) -> io::Result<()> {
-    let mut buf = [0u8; 4096];
-    let n = check_records::read(rt, "words_refused", &mut buf);
-    words::compare(Encoding::Plain, &buf[..n]).print(rt, "words refused")?;
-    words::compare(Encoding::Trim, &buf[..n]).print(rt, "trimmed refused")?;
-    let m = check_records::read(rt, "codes_refused", &mut buf);
-    codes::compare(&buf[..m]).print(rt, "codes refused")
-}
-
-// So many zeros, to read a file into.
-fn zeros<const N: usize>() -> [u8; N]
-    ensures { N ≡ length result }
-{
-    [0; N]
+fn check_refusals(rt: &(impl Files + AllocGlobal + Print)) -> io::Result<()> {
+    let words = check_records::read(rt, "words_refused", MOST_REFUSALS);
+    words::compare(Encoding::Plain, &words).print(rt, "words refused")?;
+    words::compare(Encoding::Trim, &words).print(rt, "trimmed refused")?;
+    let codes = check_records::read(rt, "codes_refused", MOST_REFUSALS);
+    codes::compare(&codes).print(rt, "codes refused")
 }

@@ -1,34 +1,28 @@
 // Codes to words, against the files 'words', 'trimmed', 'formerly_trimmed' and 'words_refused'.
-ghost use Rattle.std.specs.Prelude.{◌≡◌, ◌+◌, ◌≤◌, length};
+ghost use Rattle.std.specs.Prelude.{◌+◌, ◌≡◌, ◌≤◌, length};
 ghost use Rattle.check_records.specs.Records.{tally_of};
-ghost use Rattle.check_triples.specs.Cases.{words_case, words_met, words_at};
+ghost use Rattle.check_triples.specs.Cases.{words_case, words_due, words_met, words_at};
 
-use crate::{fields, same};
-use check_records::{Tally, u16_at, u32_at, wide};
-use matrix::{Encoded, Encoding, Words};
-use systems::Codes;
+use check_records::{Tally, u16_at, u32_at};
+use check_samples::{codes_at, words_at};
+use matrix::{Encoding, Limited};
+use systems::{Codes, Refusal};
 
-// One record: codes, and the words and the moved count that they have in a system, or the number of the refusal.
+// One record: codes, and the words and moved count that are due for them in a system, or the number of the refusal.
 #[derive(Clone, Copy)]
 struct Case {
     system: u32,
-    refusal: u32,
     codes: Codes,
-    words: Words,
-    count: u32,
+    due: Result<Limited, u32>,
 }
 
 // Compares an encoding's answer for each record with it.
 pub fn compare(encoding: Encoding, records: &[u8]) -> Tally
     ensures { result ≡ tally_of 20 (words_at encoding) records.now }
 {
-    let mut tally = Tally::NONE;
-    let mut i = 0;
-    while i < records.len() / 20 {
-        tally = tally.with(case_at(records, 20 * i).is_met(encoding));
-        i += 1;
-    }
-    tally.ended(records.len() % 20)
+    check_records::compare(records.len(), 20, |at| {
+        case_at(records, at).is_met(encoding)
+    })
 }
 
 fn case_at(records: &[u8], at: usize) -> Case
@@ -37,10 +31,21 @@ fn case_at(records: &[u8], at: usize) -> Case
 {
     Case {
         system: u32_at(records, at),
-        refusal: wide(u16_at(records, at + 4)),
-        codes: fields::codes(records, at + 6),
-        words: fields::words(records, at + 12),
-        count: wide(u16_at(records, at + 18)),
+        codes: codes_at(records, at + 6),
+        due: due_at(records, at),
+    }
+}
+
+fn due_at(records: &[u8], at: usize) -> Result<Limited, u32>
+    requires { at + 20 ≤ length records.now }
+    ensures { result ≡ words_due records.now at }
+{
+    match u16_at(records, at + 4) {
+        0 => Ok(Limited {
+            words: words_at(records, at + 12),
+            moved: u32::from(u16_at(records, at + 18)),
+        }),
+        refusal => Err(u32::from(refusal)),
     }
 }
 
@@ -48,12 +53,7 @@ impl Case {
     fn is_met(self, encoding: Encoding) -> bool
         ensures { result ≡ words_met encoding self }
     {
-        match matrix::words_of_codes(self.system, encoding, self.codes) {
-            Encoded::Words(found) => {
-                let same = same::words(found.words, self.words);
-                (self.refusal == 0) & ((found.moved == self.count) & same)
-            }
-            Encoded::Refused(refusal) => refusal.number() == self.refusal,
-        }
+        let answer = matrix::words_of_codes(self.system, encoding, self.codes);
+        answer.map_err(Refusal::number) == self.due
     }
 }

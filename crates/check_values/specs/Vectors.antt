@@ -1,5 +1,5 @@
 -- The records of the files that reference/make_values.py makes, and whether the conversion agrees with them. Definitions only.
-use Rattle.std.specs.Prelude.{ℕ, zero, suc, ◌+◌, ◌-◌, ◌*◌, ◌/◌, ◌%◌, ◌^◌, Bool, false, cond, not, ◌&&◌, List, ◌==◌, from_bits, nat_lt, to_bits, Float}
+use Rattle.std.specs.Prelude.{ℕ, zero, suc, ◌+◌, ◌-◌, ◌*◌, ◌/◌, ◌%◌, ◌^◌, Bool, false, cond, ◌&&◌, List, ◌==◌, from_bits, nat_lt, to_bits, Float, Result, Ok, Err}
 use Rattle.std.specs.Float.{nan, binary32}
 use Rattle.std.specs.Float.Ieee.{eq}
 use Rattle.exact.specs.Outcome.{Outcome, accepted, refused}
@@ -86,15 +86,25 @@ lights_to bs (suc i) = span_tallied (place_at i) (first_at bs i) (span_in bs (4 
 
 -- ---- 'signals': a signal's bits, and its code in a system, or 0 where it is refused with 7; 8 bytes a record
 
+abbrev pub due_in : List ℕ → ℕ → Result ℕ ℕ
+due_in bs i = let code = u16_at bs i in cond (code == 0) (Err 7) (Ok code)
+
 abbrev pub case_in : List ℕ → ℕ → Case
-case_in bs i = record { system = u16_at bs i; code = u16_at bs (i + 2); signal = from_bits binary32 (u32_at bs (i + 4)) }
+case_in bs i = record { system = u16_at bs i; signal = from_bits binary32 (u32_at bs (i + 4)); due = due_in bs (i + 2) }
 
-abbrev pub codes_met : Outcome Codes → ℕ → Codes → Bool
-codes_met (accepted c) code d = not (code == 0) && (c.r == d.r && c.g == d.g && c.b == d.b)
-codes_met (refused n) code d = code == 0 && n == 7
+abbrev pub codes_met : Outcome Codes → Result Codes ℕ → Bool
+codes_met (accepted c) (Ok d) = c.r == d.r && (c.g == d.g && c.b == d.b)
+codes_met (accepted c) (Err n) = false
+codes_met (refused k) (Ok d) = false
+codes_met (refused k) (Err n) = k == n
 
-abbrev pub is_met : Case → Signals → Codes → Bool
-is_met c e d = codes_met (signal_codes c.system e) c.code d
+abbrev pub is_met : ℕ → Signals → Result Codes ℕ → Bool
+is_met n e due = codes_met (signal_codes n e) due
+
+-- the codes that are due where one is
+abbrev pub codes_with : (ℕ → Codes) → Result ℕ ℕ → Result Codes ℕ
+codes_with at_code (Ok code) = Ok (at_code code)
+codes_with at_code (Err n) = Err n
 
 -- 0.5, and its code: 125.5·s, the half going up
 abbrev pub half : Float
@@ -109,9 +119,9 @@ signal_tallied c t =
     let x = c.signal in
     let h = half_code c.system in
     tallied (tallied (tallied t
-    (is_met c (signals x half half) (codes c.code h h)))
-    (is_met c (signals half x half) (codes h c.code h)))
-    (is_met c (signals half half x) (codes h h c.code))
+    (is_met c.system (signals x half half) (codes_with (λ code. codes code h h) c.due)))
+    (is_met c.system (signals half x half) (codes_with (λ code. codes h code h) c.due)))
+    (is_met c.system (signals half half x) (codes_with (λ code. codes h h code) c.due))
 
 unfoldable pub signals_to : List ℕ → ℕ → Tally
 signals_to bs zero = none

@@ -3,7 +3,7 @@ ghost use Rattle.std.specs.Prelude.{◌≡◌, from_bits};
 ghost use Rattle.std.specs.Float.{nan, binary32};
 ghost use Rattle.check_values.specs.Vectors.{half, has_bits};
 
-// The float with these bits. The language takes no NaN from bits, so each NaN's pattern gives the NaN of 0/0.
+// The float with these bits. The language takes no NaN from bits, so each NaN's pattern gives the one NaN.
 pub fn from_bits(bits: u32) -> f32
     ensures { result ≡ from_bits binary32 bits }
 {
@@ -15,12 +15,10 @@ pub fn from_bits(bits: u32) -> f32
     }
 }
 
-// 0/0.
 pub fn not_a_number() -> f32
     ensures { result ≡ nan }
 {
-    let zero: f32 = 0.0;
-    zero / zero
+    f32::NAN
 }
 
 pub fn half() -> f32
@@ -33,9 +31,5 @@ pub fn half() -> f32
 pub fn has_bits(x: f32, bits: u32) -> bool
     ensures { result ≡ has_bits x bits }
 {
-    if x == x {
-        f32::to_bits(x) == bits
-    } else {
-        false
-    }
+    x == x && f32::to_bits(x) == bits
 }

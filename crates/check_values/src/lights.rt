@@ -1,23 +1,22 @@
 // Lights to codes and codes to spans, against the file 'spans'.
-ghost use Rattle.std.specs.Prelude.{◌≡◌, ◌+◌, ◌/◌, ◌%◌, ◌≤◌, length};
+ghost use Rattle.std.specs.Prelude.{◌+◌, ◌≡◌, ◌/◌, ◌%◌, ◌≤◌, length};
 ghost use Rattle.check_records.specs.Records.{tally_of, ended};
 ghost use Rattle.check_values.specs.Vectors.{span_in, is_span, span_at, has_code, span_tallied, after, lights_to};
 
 use crate::place::Place;
 use check_records::{Tally, u16_at};
-use light::{CodeSpan, LightCode, Span};
+use light::Span;
 
 // Compares the span of each code with its record.
+#[tactic(auto, unfolding(check_records::specs::Records::tally_to, crate::specs::Vectors::place_at))]
 pub fn compare_spans(records: &[u8]) -> Tally
     ensures { result ≡ tally_of 4 span_at records.now }
 {
     let mut tally = Tally::NONE;
     let mut place = Place::FIRST;
-    let mut i = 0;
-    while i < records.len() / 4 {
+    for i in 0..records.len() / 4 {
         tally = tally.with(is_span(place, span_at(records, 4 * i)));
         place = place.next();
-        i += 1;
     }
     tally.ended(records.len() % 4)
 }
@@ -30,14 +29,12 @@ pub fn compare_lights(records: &[u8]) -> Tally
 {
     let mut tally = Tally::NONE;
     let mut place = Place::FIRST;
-    let mut first: u32 = 0;
-    let mut i = 0;
-    while i < records.len() / 4 {
+    let mut first = 0;
+    for i in 0..records.len() / 4 {
         let span = span_at(records, 4 * i);
         tally = compare_span(place, first, span, tally);
         place = place.next();
         first = after(span, place);
-        i += 1;
     }
     tally.ended(records.len() % 4)
 }
@@ -47,13 +44,11 @@ pub fn compare_lights(records: &[u8]) -> Tally
 fn compare_span(place: Place, first: u32, span: Span, tally: Tally) -> Tally
     ensures { result ≡ span_tallied place first span tally }
 {
-    let greatest = span.greatest;
-    let begins = span.least as u32 == first;
+    let begins = u32::from(span.least) == first;
+    let end = u32::from(span.greatest) + 1;
     let mut tally = tally;
-    let mut light = first;
-    while light <= greatest as u32 {
+    for light in first..end {
         tally = tally.with(begins & has_code(place, light as u16));
-        light += 1;
     }
     tally
 }
@@ -65,7 +60,7 @@ fn after(span: Span, next: Place) -> u32
     if next.is_black() {
         0
     } else {
-        span.greatest as u32 + 1
+        u32::from(span.greatest) + 1
     }
 }
 
@@ -82,17 +77,11 @@ fn span_at(records: &[u8], at: usize) -> Span
 fn is_span(place: Place, span: Span) -> bool
     ensures { result ≡ is_span place span }
 {
-    match light::span_of_code(place.system, place.code) {
-        CodeSpan::Lights(s) => (s.least == span.least) & (s.greatest == span.greatest),
-        CodeSpan::Refused(_) => false,
-    }
+    light::span_of_code(place.system, place.code) == Ok(span)
 }
 
 fn has_code(place: Place, light: u16) -> bool
     ensures { result ≡ has_code place light }
 {
-    match light::code_of_light(place.system, light) {
-        LightCode::Code(code) => code == place.code,
-        LightCode::Refused(_) => false,
-    }
+    light::code_of_light(place.system, light) == Ok(place.code)
 }

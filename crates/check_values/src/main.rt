@@ -10,10 +10,13 @@ mod refusals;
 mod restored;
 mod triple;
 
-ghost use Rattle.std.specs.Prelude.{◌≡◌, length};
-
 use std::io;
 use std::rt::Files;
+
+// Files of so many bytes or more are not read: a record for each code, and signals.
+const MOST_OF_CODES: usize = 65536;
+
+const MOST_SIGNALS: usize = 524288;
 
 fn main(rt: HostRuntime) -> io::Result<()> {
     check_spans(&rt)?;
@@ -22,28 +25,18 @@ fn main(rt: HostRuntime) -> io::Result<()> {
     refusals::compare().print(&rt, "refusals")
 }
 
-fn check_spans(rt: &(impl Files + Print)) -> io::Result<()> {
-    let mut buf = [0u8; 65536];
-    let n = check_records::read(rt, "spans", &mut buf);
-    lights::compare_lights(&buf[..n]).print(rt, "lights")?;
-    lights::compare_spans(&buf[..n]).print(rt, "spans")
+fn check_spans(rt: &(impl Files + AllocGlobal + Print)) -> io::Result<()> {
+    let spans = check_records::read(rt, "spans", MOST_OF_CODES);
+    lights::compare_lights(&spans).print(rt, "lights")?;
+    lights::compare_spans(&spans).print(rt, "spans")
 }
 
-fn check_signals(rt: &(impl Files + Print)) -> io::Result<()> {
-    let mut buf = zeros::<524288>();
-    let n = check_records::read(rt, "signals", &mut buf);
-    quantised::compare(&buf[..n]).print(rt, "signals")
+fn check_signals(rt: &(impl Files + AllocGlobal + Print)) -> io::Result<()> {
+    let signals = check_records::read(rt, "signals", MOST_SIGNALS);
+    quantised::compare(&signals).print(rt, "signals")
 }
 
-fn check_restored(rt: &(impl Files + Print)) -> io::Result<()> {
-    let mut buf = [0u8; 65536];
-    let n = check_records::read(rt, "restored", &mut buf);
-    restored::compare(&buf[..n]).print(rt, "restored")
-}
-
-// So many zeros, to read a file into.
-fn zeros<const N: usize>() -> [u8; N]
-    ensures { N ≡ length result }
-{
-    [0; N]
+fn check_restored(rt: &(impl Files + AllocGlobal + Print)) -> io::Result<()> {
+    let restored = check_records::read(rt, "restored", MOST_OF_CODES);
+    restored::compare(&restored).print(rt, "restored")
 }

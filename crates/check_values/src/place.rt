@@ -30,7 +30,7 @@ impl Place {
                 code: code + 1,
             };
         }
-        let next = std::num::wrapping_add_u32(system, 1);
+        let next = system.wrapping_add(1);
         Place {
             system: next,
             code: black(next),

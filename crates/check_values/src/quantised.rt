@@ -1,20 +1,23 @@
 // Signals to codes, against the file 'signals'.
-ghost use Rattle.std.specs.Prelude.{◌≡◌, ◌+◌, ◌/◌, ◌%◌, ◌≤◌, length};
+ghost use Rattle.std.specs.Prelude.{◌+◌, ◌≡◌, ◌/◌, ◌%◌, ◌≤◌, length};
 ghost use Rattle.check_records.specs.Records.{ended};
-ghost use Rattle.check_values.specs.Vectors.{case_in, is_met, half_code, signal_tallied, signals_to};
+ghost use Rattle.check_values.specs.Vectors.{case_in, due_in, is_met, half_code, signal_tallied, signals_to};
 
 use crate::{float, triple};
-use check_records::{Tally, u16_at, u32_at, wide};
-use signals::{Quantised, Signals};
-use systems::Codes;
+use check_records::{Tally, u16_at, u32_at};
+use signals::Signals;
+use systems::{Codes, Refusal};
 
-// One record: a signal, and the code that it has in a system, or 0 where it is refused.
+// One record: a signal, and the code that is due for it in a system, or the refusal's number.
 #[derive(Clone, Copy)]
 struct Case {
     system: u32,
-    code: u16,
     signal: f32,
+    due: Result<u16, u32>,
 }
+
+// A signal is refused with this.
+const SIGNAL: u32 = 7;
 
 // Compares the answers for each record with its signal as R', as G' and as B'.
 #[tactic(auto, unfolding(crate::specs::Vectors::signals_to))]
@@ -22,10 +25,8 @@ pub fn compare(records: &[u8]) -> Tally
     ensures { result ≡ ended (signals_to records.now (length records.now / 8)) (length records.now % 8) }
 {
     let mut tally = Tally::NONE;
-    let mut i = 0;
-    while i < records.len() / 8 {
+    for i in 0..records.len() / 8 {
         tally = case_at(records, 8 * i).compare(tally);
-        i += 1;
     }
     tally.ended(records.len() % 8)
 }
@@ -35,9 +36,20 @@ fn case_at(records: &[u8], at: usize) -> Case
     ensures { result ≡ case_in records.now at }
 {
     Case {
-        system: wide(u16_at(records, at)),
-        code: u16_at(records, at + 2),
+        system: u32::from(u16_at(records, at)),
         signal: float::from_bits(u32_at(records, at + 4)),
+        due: due_at(records, at + 2),
+    }
+}
+
+// No code is 0: where the record has it, the signal is refused.
+fn due_at(records: &[u8], at: usize) -> Result<u16, u32>
+    requires { at + 2 ≤ length records.now }
+    ensures { result ≡ due_in records.now at }
+{
+    match u16_at(records, at) {
+        0 => Err(SIGNAL),
+        code => Ok(code),
     }
 }
 
@@ -48,26 +60,22 @@ impl Case {
         ensures { result ≡ signal_tallied self tally }
     {
         let x = self.signal;
-        let code = self.code;
         let half = float::half();
         let h = code_of_half(self.system);
-        let as_r = self.is(triple::signals(x, half, half), triple::codes(code, h, h));
-        let as_g = self.is(triple::signals(half, x, half), triple::codes(h, code, h));
-        let as_b = self.is(triple::signals(half, half, x), triple::codes(h, h, code));
-        tally.with(as_r).with(as_g).with(as_b)
+        let as_r = self.due.map(|code| triple::codes(code, h, h));
+        let as_g = self.due.map(|code| triple::codes(h, code, h));
+        let as_b = self.due.map(|code| triple::codes(h, h, code));
+        tally
+            .with(is_met(self.system, triple::signals(x, half, half), as_r))
+            .with(is_met(self.system, triple::signals(half, x, half), as_g))
+            .with(is_met(self.system, triple::signals(half, half, x), as_b))
     }
+}
 
-    // Whether the signals have these codes or, where the record says so, are refused with 7.
-    fn is(self, signals: Signals, codes: Codes) -> bool
-        ensures { result ≡ is_met self signals codes }
-    {
-        match signals::codes_of_signals(self.system, signals) {
-            Quantised::Codes(c) => {
-                !(self.code == 0) & ((c.r == codes.r) & (c.g == codes.g) & (c.b == codes.b))
-            }
-            Quantised::Refused(refusal) => (self.code == 0) & (refusal.number() == 7),
-        }
-    }
+fn is_met(system: u32, signals: Signals, due: Result<Codes, u32>) -> bool
+    ensures { result ≡ is_met system signals due }
+{
+    signals::codes_of_signals(system, signals).map_err(Refusal::number) == due
 }
 
 // 125.5·s, the half going up.
@@ -76,8 +84,7 @@ fn code_of_half(system: u32) -> u16
 {
     match system {
         1 => 126,
-        2 => 502,
-        3 => 502,
+        2 | 3 => 502,
         _ => 2008,
     }
 }

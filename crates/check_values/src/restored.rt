@@ -7,7 +7,6 @@ use crate::float::has_bits;
 use crate::place::Place;
 use crate::triple;
 use check_records::{Tally, u32_at};
-use signals::Restored;
 use systems::Codes;
 
 // The bits of 0 and 1.
@@ -30,11 +29,9 @@ pub fn compare(records: &[u8]) -> Tally
 {
     let mut tally = Tally::NONE;
     let mut place = Place::FIRST;
-    let mut i = 0;
-    while i < records.len() / 4 {
+    for i in 0..records.len() / 4 {
         tally = compare_code(place, u32_at(records, 4 * i), tally);
         place = place.next();
-        i += 1;
     }
     tally.ended(records.len() % 4)
 }
@@ -73,9 +70,9 @@ fn is_restored(system: u32, codes: Codes, bits: Bits) -> bool
     ensures { result ≡ is_restored system codes bits }
 {
     match signals::signals_of_codes(system, codes) {
-        Restored::Signals(s) => has_bits(s.r, bits.r)
-            & has_bits(s.g, bits.g)
-            & has_bits(s.b, bits.b),
-        Restored::Refused(_) => false,
+        Ok(found) => {
+            has_bits(found.r, bits.r) && has_bits(found.g, bits.g) && has_bits(found.b, bits.b)
+        }
+        Err(_) => false,
     }
 }

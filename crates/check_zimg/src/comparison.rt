@@ -1,16 +1,15 @@
 // The comparison of a system's samples: our words of the codes that zimg was given beside its words, our codes of its words beside
 // its codes; and none of ours is clipped, since codes that are one off nominal at most are video data.
 ghost use Rattle.std.specs.Prelude.{◌≡◌};
-ghost use Rattle.matrix.specs.declared.Encoding.TheVariants.{Plain};
-ghost use Rattle.matrix.specs.Triples.{words_of_codes, codes_of_words};
+ghost use Rattle.systems.specs.Refusals.{outcome};
 ghost use Rattle.check_zimg.specs.Samples.{words_near, codes_near, unclipped, compared, ended, comparison_of};
 
 use crate::nearness::Nearness;
 use crate::sample;
 use crate::sample::Sample;
 use check_records::Tally;
-use matrix::{Decoded, Encoded, Encoding, Words};
-use systems::Codes;
+use matrix::{Clipped, Clips, Encoding, Limited, Words};
+use systems::{Codes, Refusal};
 
 #[derive(Clone, Copy)]
 pub struct Comparison {
@@ -25,12 +24,10 @@ pub fn compare(system: u32, records: &[u8]) -> Comparison
     ensures { result ≡ comparison_of system records.now }
 {
     let mut found = Comparison::NONE;
-    let mut i = 0;
-    while i < records.len() / 12 {
+    for i in 0..records.len() / sample::BYTES {
         found = found.with(system, sample::sample_at(system, records, i));
-        i += 1;
     }
-    found.ended(records.len() % 12)
+    found.ended(records.len() % sample::BYTES)
 }
 
 impl Comparison {
@@ -45,12 +42,12 @@ impl Comparison {
     fn with(self, system: u32, sample: Sample) -> Comparison
         ensures { result ≡ compared system self sample }
     {
-        let words = sample.words;
-        let codes = sample.codes;
+        let words = matrix::words_of_codes(system, Encoding::Plain, sample.given);
+        let codes = matrix::codes_of_words(system, sample.words);
         Comparison {
-            words: with_words(self.words, system, sample.given, words),
-            codes: with_codes(self.codes, system, words, codes),
-            clipped: self.clipped.with(is_unclipped(system, words)),
+            words: with_words(self.words, words, sample.words),
+            codes: with_codes(self.codes, codes, sample.codes),
+            clipped: self.clipped.with(is_unclipped(codes)),
         }
     }
 
@@ -70,41 +67,37 @@ impl Comparison {
     }
 }
 
-fn with_words(found: Nearness, system: u32, codes: Codes, theirs: Words) -> Nearness
-    ensures { result ≡ words_near (words_of_codes system Plain codes) found theirs }
+// Words and codes have a function each: as arrays of three they read no plainer.
+fn with_words(found: Nearness, ours: Result<Limited, Refusal>, theirs: Words) -> Nearness
+    ensures { result ≡ words_near (outcome ours) found theirs }
 {
-    match matrix::words_of_codes(system, Encoding::Plain, codes) {
-        Encoded::Words(limited) => {
-            let ours = limited.words;
-            found
-                .with(ours.y, theirs.y)
-                .with(ours.cb, theirs.cb)
-                .with(ours.cr, theirs.cr)
-        }
-        Encoded::Refused(_) => found.off(),
+    match ours {
+        Ok(ours) => found
+            .with(ours.words.y, theirs.y)
+            .with(ours.words.cb, theirs.cb)
+            .with(ours.words.cr, theirs.cr),
+        Err(_) => found.off(),
     }
 }
 
-fn with_codes(found: Nearness, system: u32, words: Words, theirs: Codes) -> Nearness
-    ensures { result ≡ codes_near (codes_of_words system words) found theirs }
+// A function of its own: the components of words and of codes have names of their own, and as arrays they read no plainer.
+fn with_codes(found: Nearness, ours: Result<Clipped, Refusal>, theirs: Codes) -> Nearness
+    ensures { result ≡ codes_near (outcome ours) found theirs }
 {
-    match matrix::codes_of_words(system, words) {
-        Decoded::Codes(clipped) => {
-            let ours = clipped.codes;
-            found
-                .with(ours.r, theirs.r)
-                .with(ours.g, theirs.g)
-                .with(ours.b, theirs.b)
-        }
-        Decoded::Refused(_) => found.off(),
+    match ours {
+        Ok(ours) => found
+            .with(ours.codes.r, theirs.r)
+            .with(ours.codes.g, theirs.g)
+            .with(ours.codes.b, theirs.b),
+        Err(_) => found.off(),
     }
 }
 
-fn is_unclipped(system: u32, words: Words) -> bool
-    ensures { result ≡ unclipped (codes_of_words system words) }
+fn is_unclipped(ours: Result<Clipped, Refusal>) -> bool
+    ensures { result ≡ unclipped (outcome ours) }
 {
-    match matrix::codes_of_words(system, words) {
-        Decoded::Codes(clipped) => (clipped.clips.low == 0) & (clipped.clips.high == 0),
-        Decoded::Refused(_) => false,
+    match ours {
+        Ok(ours) => ours.clips == Clips::NONE,
+        Err(_) => false,
     }
 }

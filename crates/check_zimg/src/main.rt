@@ -10,6 +10,9 @@ use check_records::Tally;
 use std::io;
 use std::rt::Files;
 
+// A file of so many bytes or more is not read.
+const MOST: usize = 131072;
+
 fn main(rt: HostRuntime) -> io::Result<()> {
     check(&rt, 1, "system1")?;
     check(&rt, 2, "system2")?;
@@ -17,21 +20,17 @@ fn main(rt: HostRuntime) -> io::Result<()> {
     check(&rt, 4, "system4")
 }
 
-fn check(rt: &(impl Files + Print), system: u32, name: &str) -> io::Result<()> {
-    let mut buf = [0u8; 131072];
-    let n = check_records::read(rt, name, &mut buf);
-    let found = comparison::compare(system, &buf[..n]);
-    let words = found.words;
-    print(rt, system, words.same, "words")?;
-    print(rt, system, words.near, "words within one")?;
-    let codes = found.codes;
-    print(rt, system, codes.same, "codes")?;
-    print(rt, system, codes.near, "codes within one")?;
+fn check(rt: &(impl Files + AllocGlobal + Print), system: u32, name: &str) -> io::Result<()> {
+    let records = check_records::read(rt, name, MOST);
+    let found = comparison::compare(system, &records);
+    print(rt, system, found.words.same, "words")?;
+    print(rt, system, found.words.near, "words within one")?;
+    print(rt, system, found.codes.same, "codes")?;
+    print(rt, system, found.codes.near, "codes within one")?;
     print(rt, system, found.clipped, "samples unclipped")
 }
 
 // Writes a line such as 'system 1 words 24000 compared, 3 differ'.
 fn print(rt: &impl Print, system: u32, tally: Tally, check: &str) -> io::Result<()> {
-    print!(rt; "system {system} ")?;
-    tally.print(rt, check)
+    println!(rt; "system {system} {check} {tally}")
 }

@@ -1,6 +1,6 @@
 // Counts of the numbers that are the same, and of those that differ by one at most.
 ghost use Rattle.std.specs.Prelude.{◌≡◌};
-ghost use Rattle.check_zimg.specs.Samples.{apart, nearer, off};
+ghost use Rattle.check_zimg.specs.Samples.{nearer, off};
 
 use check_records::Tally;
 
@@ -21,7 +21,7 @@ impl Nearness {
     pub fn with(self, ours: u16, theirs: u16) -> Nearness
         ensures { result ≡ nearer self ours theirs }
     {
-        let apart = distance(ours, theirs);
+        let apart = ours.abs_diff(theirs);
         Nearness {
             same: self.same.with(apart == 0),
             near: self.near.with(apart <= 1),
@@ -38,10 +38,4 @@ impl Nearness {
             near: self.near.with(false).with(false).with(false),
         }
     }
-}
-
-fn distance(a: u16, b: u16) -> u16
-    ensures { result ≡ apart a b }
-{
-    if a < b { b - a } else { a - b }
 }

@@ -7,6 +7,9 @@ use check_records::u16_at;
 use matrix::Words;
 use systems::Codes;
 
+// A record's bytes.
+pub const BYTES: usize = 12;
+
 // Levels a side.
 const LEVELS: usize = 20;
 
@@ -24,8 +27,8 @@ pub fn sample_at(system: u32, records: &[u8], i: usize) -> Sample
 {
     Sample {
         given: grid_codes(system, i),
-        words: words_at(records, 12 * i),
-        codes: codes_at(records, 12 * i + 6),
+        words: words_at(records, BYTES * i),
+        codes: codes_at(records, BYTES * i + 6),
     }
 }
 
@@ -47,8 +50,7 @@ fn level(system: u32, i: usize) -> u16
     let i = i % LEVELS;
     match system {
         1 => (16 + 219 * i / 19) as u16,
-        2 => (64 + 876 * i / 19) as u16,
-        3 => (64 + 876 * i / 19) as u16,
+        2 | 3 => (64 + 876 * i / 19) as u16,
         _ => (256 + 3504 * i / 19) as u16,
     }
 }

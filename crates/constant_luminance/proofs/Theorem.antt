@@ -7,18 +7,14 @@ use Rattle.exact.specs.Signed.{rounded}
 use Rattle.exact.specs.Whole.{INT, greatest}
 use Rattle.systems.specs.declared.refusal.Refusal.TheVariants as refusal
 use Rattle.systems.specs.Systems.{video_data}
-use Rattle.systems.proofs.Answerable.{Answerable, values, refusing, tested, followed}
+use Rattle.systems.proofs.Answerable.{Answerable, values, tested, followed, answer_for}
 use Rattle.curve.specs.Curve.{dark, linear, reaches, curved, code_of, code}
 use Rattle.luminance.specs.Luminance.{luminance_code}
 use Rattle.matrix.specs.declared.Words.{Words}
 use Rattle.matrix.specs.Triples.{words_within}
 use Rattle.constant_luminance.specs.declared.Lights.{Lights}
 use Rattle.constant_luminance.specs.declared.Clipped.{Clipped}
-use Rattle.constant_luminance.specs.declared.Encoded.{Encoded}
-use Rattle.constant_luminance.specs.declared.Encoded.TheVariants as encoded
-use Rattle.constant_luminance.specs.declared.Decoded.{Decoded}
-use Rattle.constant_luminance.specs.declared.Decoded.TheVariants as decoded
-use Rattle.constant_luminance.specs.ConstantLuminance.{base, words_at, words_of_lights, codes_at, codes_of_words, words_outcome, codes_outcome}
+use Rattle.constant_luminance.specs.ConstantLuminance.{base, words_at, words_of_lights, codes_at, codes_of_words}
 use Rattle.constant_luminance.proofs.words_of_lights.Statement as encode-statement
 use Rattle.constant_luminance.proofs.words_of_lights.Met as encode-met
 use Rattle.constant_luminance.proofs.codes_of_words.Statement as decode-statement
@@ -36,15 +32,6 @@ words_answerable n l = followed (named_answerable n) (λ y. values (words_at (ba
 pub codes_answerable : (n : ℕ) (w : Words) → Answerable (codes_of_words n w)
 codes_answerable n w = followed (named_answerable n) (λ y. tested (words_within (video_data (base y)) w) refusal.Code (values (codes_at (base y) w)))
 
--- an answer that says o
-encoded_for : {o : Outcome Words} → Answerable o → (r : Encoded) × (words_outcome r ≡ o)
-encoded_for (values w) = (encoded.Words w, refl)
-encoded_for (refusing r) = (encoded.Refused r, refl)
-
-decoded_for : {o : Outcome Clipped} → Answerable o → (r : Decoded) × (codes_outcome r ≡ o)
-decoded_for (values c) = (decoded.Codes c, refl)
-decoded_for (refusing r) = (decoded.Refused r, refl)
-
 encodes_so : {n : ℕ} {l : Lights} {a : Outcome Words} → Encodes n l a → a ≡ words_of_lights n l
 encodes_so (by_words_of_lights _ _ _ post) = post
 
@@ -55,8 +42,8 @@ faithful : Faithful card
 faithful = record {
   encodes = encodes_so;
   decodes = decodes_so;
-  encoding = λ n l. let r = encoded_for (words_answerable n l) in (_, by_words_of_lights n l r.0 r.1);
-  decoding = λ n w. let r = decoded_for (codes_answerable n w) in (_, by_codes_of_words n w r.0 r.1);
+  encoding = λ n l. let r = answer_for (words_answerable n l) in (_, by_words_of_lights n l r.0 r.1);
+  decoding = λ n w. let r = answer_for (codes_answerable n w) in (_, by_codes_of_words n w r.0 r.1);
 }
 
 -- each `Post` of the card is that of a contract which the routine meets

@@ -1,14 +1,15 @@
 -- Constant luminance (request 2026-11): Y'c, C'bc and C'rc of a triple of light, and R' and B' back. Inside INT stands the exact
 -- rational, here as one ratio.
 -- Definitions only.
-use Rattle.std.specs.Prelude.{ℕ, ◌+◌, ◌*◌, true, false, leb, eqb, pos, ◌+ℤ◌, ◌-ℤ◌, ◌*ℤ◌}
+use Rattle.std.specs.Prelude.{◌≡◌, Result, ℕ, ◌+◌, ◌*◌, true, false, leb, eqb, pos, ◌+ℤ◌, ◌-ℤ◌, ◌*ℤ◌}
 use Rattle.exact.specs.Signed.{Ratio, rounded}
 use Rattle.exact.specs.Outcome.{Outcome, accepted, refused, ◌and_then◌, require}
 use Rattle.systems.specs.declared.System.{System}
 use Rattle.systems.specs.declared.System.TheVariants.{Bt2020Bits10, Bt2020Bits12}
 use Rattle.systems.specs.declared.Matrix.TheVariants.{Bt2020}
 use Rattle.systems.specs.Systems.{kr, kg, kb, middle, video_data}
-use Rattle.systems.specs.Refusals.{refusal}
+use Rattle.systems.specs.Refusals.{outcome}
+use Rattle.systems.specs.declared.refusal.Refusal.{Refusal}
 use Rattle.curve.specs.Curve.{code}
 use Rattle.luminance.specs.Luminance.{luminance_code}
 use Rattle.matrix.specs.declared.Words.{Words}
@@ -16,15 +17,9 @@ use Rattle.matrix.specs.declared.Unlimited.{Unlimited}
 use Rattle.matrix.specs.Triples.{worded, clipped, beyond, ◌plus◌, words_within}
 use Rattle.constant_luminance.specs.declared.ConstantSystem.{ConstantSystem}
 use Rattle.constant_luminance.specs.declared.ConstantSystem.TheVariants.{Bits10, Bits12}
-use Rattle.constant_luminance.specs.declared.Named.{Named}
-use Rattle.constant_luminance.specs.declared.Named.TheVariants.{Known, Unknown}
 use Rattle.constant_luminance.specs.declared.Lights.{Lights}
 use Rattle.constant_luminance.specs.declared.Divisors.{Divisors}
 use Rattle.constant_luminance.specs.declared.Clipped.{Clipped}
-use Rattle.constant_luminance.specs.declared.Encoded.{Encoded}
-use Rattle.constant_luminance.specs.declared.Encoded.TheVariants as encoded
-use Rattle.constant_luminance.specs.declared.Decoded.{Decoded}
-use Rattle.constant_luminance.specs.declared.Decoded.TheVariants as decoded
 
 -- the number of a system of constant luminance
 abbrev pub number : ConstantSystem → ℕ
@@ -40,10 +35,9 @@ base Bits12 = Bt2020Bits12
 abbrev pub named : ℕ → Outcome ConstantSystem
 named n = elim (eqb n 5) [ true ↦ accepted Bits10 | false ↦ elim (eqb n 6) [ true ↦ accepted Bits12 | false ↦ refused 1 ] ]
 
--- what a `Named` says
-abbrev pub found : Named → Outcome ConstantSystem
-found (Known y) = accepted y
-found Unknown = refused 1
+-- a number's system, or the refusal, as `named` says
+abbrev pub Names : ℕ → Result ConstantSystem Refusal → Type 0
+Names n r = outcome r ≡ named n
 
 -- 0.2627·R + 0.6780·G + 0.0593·B of light, exactly: a luminance of 10000·65535
 abbrev pub luminance : Lights → ℕ
@@ -111,12 +105,3 @@ codes_at y w =
 -- R' and B' of a word triple in the system that n names, or refusal 1 or 6
 abbrev pub codes_of_words : ℕ → Words → Outcome Clipped
 codes_of_words n w = named n and_then λ (y : ConstantSystem). require (words_within (video_data (base y)) w) 6 (accepted (codes_at (base y) w))
-
--- what the answers say
-abbrev pub words_outcome : Encoded → Outcome Words
-words_outcome (encoded.Words w) = accepted w
-words_outcome (encoded.Refused r) = refused (refusal r)
-
-abbrev pub codes_outcome : Decoded → Outcome Clipped
-codes_outcome (decoded.Codes c) = accepted c
-codes_outcome (decoded.Refused r) = refused (refusal r)

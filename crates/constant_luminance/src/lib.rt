@@ -3,30 +3,26 @@
 
 ghost use Rattle.std.specs.Prelude.{◌≡◌, ◌*◌, ◌^◌, ◌≤◌, ◌<◌, pos, nat_abs, ◌+ℤ◌, ◌*ℤ◌};
 ghost use Rattle.exact.specs.Signed.{rounded};
+ghost use Rattle.systems.specs.Refusals.{outcome};
 ghost use Rattle.curve.specs.Curve.{code};
 ghost use Rattle.matrix.specs.Inner.{TwelveBitWords};
-ghost use Rattle.constant_luminance.specs.ConstantLuminance.{base, named, found, luminance, blue, red, divisor, difference, luma_of, words_at, words_of_lights, primary, codes_at, codes_of_words, words_outcome, codes_outcome};
-ghost use Rattle.constant_luminance.specs.Inner.{Sized, Tables};
+ghost use Rattle.constant_luminance.specs.ConstantLuminance.{base, Names, luminance, blue, red, divisor, difference, luma_of, words_at, words_of_lights, primary, codes_at, codes_of_words};
+ghost use Rattle.constant_luminance.specs.Inner.{Sized};
 
-use luminance::code_in;
+use luminance::{Thresholds, code_in};
+use luminance_10::Bits10;
+use luminance_12::Bits12;
 use matrix::{Clips, Words};
 use systems::{Matrix, Range, Refusal, System};
 
-// BT.2020 with constant luminance at a bit depth.
-#[derive(Clone, Copy)]
+// BT.2020 with constant luminance at a bit depth, with its number.
+#[derive(Clone, Copy, PartialEq, Eq)]
 pub enum ConstantSystem {
-    Bits10,
-    Bits12,
+    Bits10 = 5,
+    Bits12 = 6,
 }
 
-// The system of constant luminance that a number names.
-#[derive(Clone, Copy)]
-pub enum Named {
-    Known(ConstantSystem),
-    Unknown,
-}
-
-// Linear light of a sample, 0 to 65535 each.
+// Linear light of a sample, 0 to 65535 each. A type of its own beside Codes, so that no light passes for a code.
 #[repr(C)]
 #[derive(Clone, Copy)]
 pub struct Lights {
@@ -37,29 +33,17 @@ pub struct Lights {
 
 // R' and B' codes of a sample.
 #[repr(C)]
-#[derive(Clone, Copy)]
+#[derive(Clone, Copy, PartialEq, Eq)]
 pub struct RedBlue {
     pub r: u16,
     pub b: u16,
 }
 
 // R' and B' of a sample's words, and their clips.
-#[derive(Clone, Copy)]
+#[derive(Clone, Copy, PartialEq, Eq)]
 pub struct Clipped {
     pub codes: RedBlue,
     pub clips: Clips,
-}
-
-#[derive(Clone, Copy)]
-pub enum Encoded {
-    Words(Words),
-    Refused(Refusal),
-}
-
-#[derive(Clone, Copy)]
-pub enum Decoded {
-    Codes(Clipped),
-    Refused(Refusal),
 }
 
 // What a colour difference is divided by, in ten-thousandths, where it is not above zero and where it is.
@@ -78,43 +62,40 @@ const STEPS: u32 = (Range::WHITE - Range::BLACK) as u32;
 const DIFFERENCE_STEPS: u32 = (Range::DIFFERENCE_PEAK - Range::BLACK) as u32;
 
 // The words of a triple of light; refused with 1.
-pub fn words_of_lights(system: u32, lights: Lights) -> Encoded
-    ensures { words_outcome result ≡ words_of_lights system lights }
+pub fn words_of_lights(system: u32, lights: Lights) -> Result<Words, Refusal>
+    ensures { outcome result ≡ words_of_lights system lights }
 {
-    match ConstantSystem::from_number(system) {
-        Named::Known(y) => Encoded::Words(words_of(y, lights)),
-        Named::Unknown => Encoded::Refused(Refusal::System),
-    }
+    let y = ConstantSystem::try_from(system)?;
+    Ok(words_of(y, lights))
 }
 
 // R' and B' of a word triple; refused with 1, then 6.
-pub fn codes_of_words(system: u32, words: Words) -> Decoded
-    ensures { codes_outcome result ≡ codes_of_words system words }
+pub fn codes_of_words(system: u32, words: Words) -> Result<Clipped, Refusal>
+    ensures { outcome result ≡ codes_of_words system words }
 {
-    match ConstantSystem::from_number(system) {
-        Named::Known(y) => {
-            let b = y.base();
-            if words.all_in(b.video_data()) {
-                Decoded::Codes(codes_in(b, words))
-            } else {
-                Decoded::Refused(Refusal::Code)
-            }
+    let y = ConstantSystem::try_from(system)?.base();
+    if !words.all_in(y.video_data()) {
+        return Err(Refusal::Code);
+    }
+    Ok(codes_in(y, words))
+}
+
+// The system of constant luminance that a number names.
+impl TryFrom<u32> for ConstantSystem {
+    type Error = Refusal;
+
+    ghost try_from_gives = { Names };
+
+    fn try_from(number: u32) -> Result<ConstantSystem, Refusal> {
+        match number {
+            5 => Ok(ConstantSystem::Bits10),
+            6 => Ok(ConstantSystem::Bits12),
+            _ => Err(Refusal::System),
         }
-        Named::Unknown => Decoded::Refused(Refusal::System),
     }
 }
 
 impl ConstantSystem {
-    pub fn from_number(number: u32) -> Named
-        ensures { found result ≡ named number }
-    {
-        match number {
-            5 => Named::Known(ConstantSystem::Bits10),
-            6 => Named::Known(ConstantSystem::Bits12),
-            _ => Named::Unknown,
-        }
-    }
-
     // The system that this one takes its depth, α and β of.
     pub fn base(self) -> System
         ensures { result ≡ base self }
@@ -149,40 +130,27 @@ impl Divisors {
     }
 }
 
-// A depth has its tables, and nothing else of its own.
+// A system has its boundaries, and nothing else of its own.
 fn words_of(y: ConstantSystem, lights: Lights) -> Words
     ensures { result ≡ words_at (base y) lights }
 {
     match y {
-        ConstantSystem::Bits10 => {
-            let boundaries = luminance_10::boundaries();
-            let index = luminance_10::index();
-            words_in(y, &boundaries, &index, luminance_10::BUCKET, lights)
-        }
-        ConstantSystem::Bits12 => {
-            let boundaries = luminance_12::boundaries();
-            let index = luminance_12::index();
-            words_in(y, &boundaries, &index, luminance_12::BUCKET, lights)
-        }
+        ConstantSystem::Bits10 => words_in::<Bits10>(y, lights),
+        ConstantSystem::Bits12 => words_in::<Bits12>(y, lights),
     }
 }
 
-// The words of one triple, by tables that are made once for all three codes.
-fn words_in<'a>(
-    y: ConstantSystem,
-    boundaries: &'a [u32],
-    index: &'a [u16],
-    bucket: u32,
-    lights: Lights,
-) -> Words
-    requires { Tables (base y) bucket boundaries.now index.now }
+// The words of one triple.
+#[tactic(auto, using(crate::proofs::Sizes::sized))]
+fn words_in<T: Thresholds>(y: ConstantSystem, lights: Lights) -> Words
+    requires { base y ≡ T.system }
     ensures { result ≡ words_at (base y) lights }
 {
-    let b = y.base();
-    let middle = b.middle();
-    let luma = luma_in(b, boundaries, index, bucket, lights);
-    let red = component_in(b, boundaries, index, bucket, lights.r);
-    let blue = component_in(b, boundaries, index, bucket, lights.b);
+    let base = y.base();
+    let middle = base.middle();
+    let luma = luma_in::<T>(base, lights);
+    let red = component_in::<T>(base, lights.r);
+    let blue = component_in::<T>(base, lights.b);
     Words {
         y: luma,
         cb: colour_difference(Divisors::BLUE, middle, blue, luma) as u16,
@@ -191,31 +159,20 @@ fn words_in<'a>(
 }
 
 // Y'c: the code of the exact sum.
-fn luma_in<'a>(
-    y: System,
-    boundaries: &'a [u32],
-    index: &'a [u16],
-    bucket: u32,
-    lights: Lights,
-) -> u16
-    requires { Tables y bucket boundaries.now index.now }
+fn luma_in<T: Thresholds>(y: System, lights: Lights) -> u16
+    requires { y ≡ T.system }
     ensures { result ≡ luma_of y lights }
 {
-    code_in(y, boundaries, index, bucket, luminance(lights))
+    code_in::<T>(y, luminance(lights))
 }
 
 // R' or B': a light's own code is that of its luminance alone.
-fn component_in<'a>(
-    y: System,
-    boundaries: &'a [u32],
-    index: &'a [u16],
-    bucket: u32,
-    light: u16,
-) -> u16
-    requires { Tables y bucket boundaries.now index.now }
+#[tactic(auto, using(luminance::proofs::Luminances::of_light))]
+fn component_in<T: Thresholds>(y: System, light: u16) -> u16
+    requires { y ≡ T.system }
     ensures { result ≡ code y light }
 {
-    code_in(y, boundaries, index, bucket, ONE * light as u32)
+    code_in::<T>(y, ONE * u32::from(light))
 }
 
 // The luminance of a triple of light: the exact sum, which nothing rounds.
@@ -231,7 +188,7 @@ fn share(weight: i64, light: u16) -> u32
     requires { (weight ≡ pos (nat_abs weight)) × (nat_abs weight ≤ 10000) }
     ensures { result ≡ nat_abs weight * light }
 {
-    weight as u32 * light as u32
+    weight as u32 * u32::from(light)
 }
 
 // INT((code - luma)·10000·224/(219·divisor) + m), C'bc or C'rc.
@@ -239,13 +196,14 @@ fn colour_difference(divisors: Divisors, middle: u16, code: u16, luma: u16) -> i
     requires { Sized divisors × (middle < 2 ^ 12) × (code < 2 ^ 12) × (luma < 2 ^ 12) }
     ensures { result ≡ rounded (difference divisors middle code luma) }
 {
-    let bottom = (STEPS * divisors.of(code, luma)) as i64;
+    let bottom = i64::from(STEPS * divisors.of(code, luma));
     let above = matrix::signed(code, luma);
-    let unit = (ONE * DIFFERENCE_STEPS) as i64;
-    exact::rounded(products(above, unit, middle as i64, bottom), bottom)
+    let unit = i64::from(ONE * DIFFERENCE_STEPS);
+    exact::rounded(products(above, unit, i64::from(middle), bottom), bottom)
 }
 
 // R' and B' of one triple, clipped to video data.
+#[tactic(auto, unfolding(crate::specs::ConstantLuminance::codes_at))]
 fn codes_in(y: System, words: Words) -> Clipped
     requires { TwelveBitWords words }
     ensures { result ≡ codes_at y words }
@@ -269,10 +227,10 @@ fn primary(divisors: Divisors, middle: u16, luma: u16, word: u16) -> i64
     requires { Sized divisors × (middle < 2 ^ 12) × (luma < 2 ^ 12) × (word < 2 ^ 12) }
     ensures { result ≡ rounded (primary divisors middle luma word) }
 {
-    let step = (STEPS * divisors.of(word, middle)) as i64;
+    let step = i64::from(STEPS * divisors.of(word, middle));
     let above = matrix::signed(word, middle);
-    let bottom = (DIFFERENCE_STEPS * ONE) as i64;
-    exact::rounded(products(bottom, luma as i64, above, step), bottom)
+    let bottom = i64::from(DIFFERENCE_STEPS * ONE);
+    exact::rounded(products(bottom, i64::from(luma), above, step), bottom)
 }
 
 // a·x + b·y.

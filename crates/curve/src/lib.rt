@@ -1,28 +1,41 @@
 // Light to code by a table of boundary lights (document 01, 'Light to code'): one lookup for all depths and all callers.
 #![tactic(auto)]
 
-ghost use Rattle.std.specs.Prelude.{◌≡◌, ◌≤◌, leb};
+ghost use Rattle.std.specs.Prelude.{◌≡◌, ◌≤◌, ℕ, leb};
+ghost use Rattle.systems.specs.Systems.{bits};
 ghost use mir.Val.{bool_byte};
 ghost use Rattle.curve.specs.Curve.{code};
-ghost use Rattle.curve.specs.Inner.{ReadyFor};
+ghost use Rattle.curve.specs.Inner.{BoundariesAt, IndexAt};
 
 use systems::System;
 
-// The code of a light. The index leads by the light's high bits to the first of two boundaries that can lie below it.
-// Returned as wide as a register: a u16 would be cut here and widened again where the matrix takes it.
-pub fn code_in<'a>(
-    y: System,
-    boundaries: &'a [u16],
-    index: &'a [u16],
-    shift: u32,
-    light: u16,
-) -> usize
-    requires { ReadyFor y shift boundaries.now index.now }
+// A bit depth's boundary lights: entry j of `boundaries` is the least light whose code is at least 16s + j + 1. For each run of
+// 2^SHIFT lights, `index` leads to the first of two boundaries that can lie in it.
+pub trait Thresholds {
+    ghost bits: { ℕ };
+
+    ghost SHIFT: { ℕ };
+
+    // A light shifted right by this has its place in the index.
+    const SHIFT: u32;
+
+    fn boundaries() -> &'static [u16]
+        ensures { BoundariesAt bits result.now };
+
+    fn index() -> &'static [u16]
+        ensures { IndexAt bits SHIFT result.now };
+}
+
+// The code of a light by its depth's boundaries. Returned as wide as a register: a u16 would be cut here and widened again where
+// the matrix takes it.
+pub fn code_in<T: Thresholds>(y: System, light: u16) -> usize
+    requires { bits y ≡ T.bits }
     ensures { result ≡ code y light }
 {
-    let n = index[(light >> shift) as usize] as usize;
-    let nominal = y.nominal();
-    nominal.low as usize + n + passed(boundaries[n], light) + passed(boundaries[n + 1], light)
+    let boundaries = T::boundaries();
+    let n = T::index()[(light >> T::SHIFT) as usize] as usize;
+    let black = y.nominal().low as usize;
+    black + n + passed(boundaries[n], light) + passed(boundaries[n + 1], light)
 }
 
 // 1 where the light is at the boundary or beyond it, else 0.

@@ -1,11 +1,10 @@
 -- What a block that was judged for a target becomes.
 -- Assumes nothing.
-use Prim.Native.Nat.{ℕ, ◌+◌, ◌*◌, ◌≤◌, ◌<◌}
+use Prim.Native.Nat.{ℕ, ◌+◌, ◌*◌}
 use native.Mathlib.Nat.{le_refl}
-use mathlib.Core.Path.{◌≡◌, refl, ap, ◌∙◌}
+use mathlib.Core.Path.{◌≡◌, ap, ◌∙◌}
 use mathlib.Core.Bool.{true}
 use mathlib.Core.List.{List}
-use native.Mathlib.Omega.{arith}
 use lib.Dec.{leb}
 use Rattle.exact.specs.Outcome.{accepted, refused, require}
 use Rattle.exact.proofs.Outcome.{accepted_first, required}
@@ -19,7 +18,7 @@ use Rattle.block.proofs.Walking.{passed}
 use Rattle.block.proofs.Reading.{decodable}
 use Rattle.depth.specs.declared.Way.{Way}
 use Rattle.depth.specs.Depth.{other_depth, word_in, no_timing_to, row_in, judge_for, block_in, changing}
-use Rattle.depth.specs.Inner.{way_to, word_by, words_by, Movable, over_at}
+use Rattle.depth.specs.Inner.{way_to, word_by, words_by, over_at}
 use Rattle.depth.proofs.Passing.{by_way}
 
 -- a section's words, by the way that the code takes
@@ -32,21 +31,6 @@ pub section_in : (y z : System) (bs d d' : List ℕ) (at k n : ℕ) (v : Way) �
     → d' ≡ over_at at (section (tabulate (λ i. word_in y z (field_at bs (k + 2 * i))) n)) d
 section_in y z bs d d' at k n v way e put =
     put ∙ ap (λ (v : Way). over_at at (section (words_by v bs (at + 2) n)) d) way ∙ ap (λ (ws : List ℕ). over_at at (section ws) d) (section_words y z bs at k n e)
-
--- the sections of a block that can be read, and room for as many
-module _ {bs : List ℕ} {w r : ℕ} (d : Decodable bs w r) (room : ℕ) (fits : size w ≤ room) where
-  movable : (at k : ℕ) → at ≡ k → k + 2 * w ≤ size w → ((i : ℕ) → i < w → field_at bs (k + 2 * i) < 4096) → Movable bs at w room
-  movable at k e h small =
-      rw e record { there = omega (arith, d.long); near = omega (arith, d.narrow); few = d.narrow; narrow = small; fits = omega arith }
-
-  pub luma_movable : Movable bs 5 w room
-  luma_movable = movable 5 5 refl (omega arith) (λ i h. (d.words i h).y_high)
-
-  pub cb_movable : Movable bs (5 + 2 * w + 2) w room
-  cb_movable = movable (5 + 2 * w + 2) (7 + 2 * w) (omega arith) (omega arith) (λ i h. (d.words i h).cb_high)
-
-  pub cr_movable : Movable bs (7 + 4 * w + 2) w room
-  cr_movable = movable (7 + 4 * w + 2) (9 + 4 * w) (omega arith) (omega arith) (λ i h. (d.words i h).cr_high)
 
 -- what a block that was judged for z has shown
 pub record For (z : System) (bs : List ℕ) (b : Judged) : Type 0 where
@@ -66,16 +50,11 @@ judged_for z bs b e =
 pub for_decodable : (z : System) (bs : List ℕ) (b : Judged) → judge_for z bs ≡ accepted b → Decodable bs b.samples (3 * b.samples)
 for_decodable z bs b e = decodable bs (3 * b.samples) b (judged_for z bs b e).judged (le_refl (3 * b.samples))
 
-module _ (n : ℕ) (bs : List ℕ) (room : ℕ) where
-  pub no_target : (k : ℕ) → named n ≡ refused k → changing n bs room ≡ refused k
+module _ (n : ℕ) (bs : List ℕ) (room : ℕ) (z : System) (known : named n ≡ accepted z) where
+  pub no_block : (k : ℕ) → judge_for z bs ≡ refused k → changing n bs room ≡ refused k
   unfolding changing
-  no_target k e = rw e
+  no_block k e = rw (known, e)
 
-  module _ (z : System) (known : named n ≡ accepted z) where
-    pub no_block : (k : ℕ) → judge_for z bs ≡ refused k → changing n bs room ≡ refused k
-    unfolding changing
-    no_block k e = rw (known, e)
-
-    pub by_room : (b : Judged) → judge_for z bs ≡ accepted b → changing n bs room ≡ require (leb (size b.samples) room) 5 (accepted (block_in z b bs))
-    unfolding changing
-    by_room b e = rw (known, e)
+  pub by_room : (b : Judged) → judge_for z bs ≡ accepted b → changing n bs room ≡ require (leb (size b.samples) room) 5 (accepted (block_in z b bs))
+  unfolding changing
+  by_room b e = rw (known, e)

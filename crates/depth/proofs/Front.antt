@@ -1,6 +1,6 @@
 -- A list that is written from front to back.
 -- Assumes nothing.
-use Prim.Native.Nat.{ℕ, ◌+◌, ◌*◌, ◌≤◌, ◌<◌, zero-le}
+use Prim.Native.Nat.{ℕ, ◌+◌, ◌*◌, ◌≤◌}
 use mathlib.Core.Path.{◌≡◌, refl, sym, ap, ◌∙◌}
 use mathlib.Core.List.{List, [], ◌∷◌, ◌++◌, append_assoc, append-nil}
 use native.Mathlib.Numerals.{add-one}
@@ -35,35 +35,22 @@ over_over p x d n e =
 over_take : (n : ℕ) (d : List ℕ) → n ≤ length d → over (take n d) d ≡ d
 over_take n d h = ap (λ (k : ℕ). take n d ++ drop k d) (length-take-le n d h) ∙ take-append-drop n d
 
--- after i turns of a loop over a section's words: the first i of n are stored
-pub record StoredTo (word : ℕ → ℕ) (at n : ℕ) (d₀ d : List ℕ) (i : ℕ) : Type 0 where
-  pub so_far : i ≤ n
-  pub same_length : length d ≡ length d₀
-  pub stores : d ≡ over_at at (fields (tabulate word i)) d₀
-
-pub none_stored : {word : ℕ → ℕ} {at n : ℕ} {d : List ℕ} → at ≤ length d → StoredTo word at n d d 0
+-- no words and one more of them, from a place on
+pub none_stored : (word : ℕ → ℕ) (at : ℕ) (d : List ℕ) → at ≤ length d → d ≡ over_at at (fields (tabulate word 0)) d
 unfolding tabulate fields over_at
-none_stored {at = at} {d = d} h =
-    record { so_far = zero-le; same_length = refl; stores = sym (ap (λ (l : List ℕ). over l d) (append-nil (take at d)) ∙ over_take at d h) }
+none_stored word at d h = sym (ap (λ (l : List ℕ). over l d) (append-nil (take at d)) ∙ over_take at d h)
 
-pub one_more_stored : {word : ℕ → ℕ} {at n i : ℕ} {d₀ d e : List ℕ} → StoredTo word at n d₀ d i → i < n → at + 2 * n ≤ length d₀ → length e ≡ length d
-    → e ≡ put (at + 2 * i) (word i) d → StoredTo word at n d₀ e (i + 1)
+pub one_more_stored : (word : ℕ → ℕ) (at i : ℕ) (d₀ : List ℕ) {d e : List ℕ} → at + 2 * i + 2 ≤ length d₀ → d ≡ over_at at (fields (tabulate word i)) d₀ → e ≡ put (at + 2 * i) (word i) d
+    → e ≡ over_at at (fields (tabulate word (i + 1))) d₀
 unfolding tabulate fields over_at
-one_more_stored {word} {at} {n} {i} {d₀} {d} {e} before h room l turn =
+one_more_stored word at i d₀ room before turn =
     let words : List ℕ = fields (tabulate word i) in
     let long : length (take at d₀ ++ words) ≡ at + 2 * i =
     simp (length-append, length_fields, length_tabulate) (omega (arith, length-take-le at d₀ (omega arith))) in
     let more : take at d₀ ++ words ++ field (word i) ≡ take at d₀ ++ fields (tabulate word i ++ word i ∷ []) =
     append_assoc (take at d₀) words (field (word i)) ∙ ap (λ (x : List ℕ). take at d₀ ++ x) (sym (fields_append (tabulate word i) (word i ∷ []))) in
-    record {
-      so_far = omega arith;
-      same_length = l ∙ before.same_length;
-      stores = rw (add-one i)
-          (turn ∙ ap (put (at + 2 * i) (word i)) before.stores ∙ put_over (take at d₀ ++ words) d₀ (word i) (at + 2 * i) long (omega arith) ∙ ap (λ (p : List ℕ). over p d₀) more);
-    }
-
-pub all_stored : {word : ℕ → ℕ} {at n i : ℕ} {d₀ d : List ℕ} → StoredTo word at n d₀ d i → n ≤ i → d ≡ over_at at (fields (tabulate word n)) d₀
-all_stored {n = n} {i = i} before h = let e : i ≡ n = omega (arith, before.so_far) in let s = before.stores in rw e at s
+    rw (add-one i)
+    (turn ∙ ap (put (at + 2 * i) (word i)) before ∙ put_over (take at d₀ ++ words) d₀ (word i) (at + 2 * i) long room ∙ ap (λ (p : List ℕ). over p d₀) more)
 
 -- a section: its count, and its words behind it
 pub section_put : (at n : ℕ) (ws d d₁ d₂ : List ℕ) → length ws ≡ n → at + 2 ≤ length d → d₁ ≡ put at n d → d₂ ≡ over_at (at + 2) (fields ws) d₁

@@ -1,10 +1,12 @@
 -- One test of a block's words for both 6 and 33, and what that says of a block that was walked.
 -- Assumes nothing.
-use Prim.Native.Nat.{ℕ, zero, suc, ◌*◌}
+use Prim.Native.Nat.{ℕ, zero, suc, ◌*◌, ◌≤◌}
 use mathlib.Core.Path.{◌≡◌, refl, sym, ◌∙◌}
 use mathlib.Core.Bool.{Bool, true, false, cond, not, ◌&&◌, false≢true}
 use mathlib.Core.List.{List}
+use native.Mathlib.Omega.{arith}
 use lib.Dec.{ltb}
+use lib.ListN.{length}
 use Rattle.exact.specs.Outcome.{Outcome, accepted, refused, ◌and_then◌, require}
 use Rattle.exact.specs.Whole.{INT}
 use Rattle.systems.specs.declared.System.{System}
@@ -14,8 +16,10 @@ use Rattle.systems.proofs.Scales.{scale_range}
 use Rattle.matrix.specs.declared.Words.{Words}
 use Rattle.matrix.specs.Triples.{words_within}
 use Rattle.block.specs.declared.Judged.{Judged}
+use Rattle.block.specs.Block.{size}
 use Rattle.block.specs.Read.{sample_at, within_to, walk, words_ok, judge}
 use Rattle.block.proofs.Ranges.{each, by_parts}
+use Rattle.block.proofs.Walking.{walk_accepted}
 use Rattle.depth.specs.declared.Way.TheVariants.{Up, Down}
 use Rattle.depth.specs.Depth.{other_depth, word_in, words_in, no_timing, no_timing_to, row_in, judge_for}
 use Rattle.depth.specs.Inner.{way_to, word_by, passing}
@@ -78,6 +82,9 @@ module _ (y z : System) (p : Pair y z) (sample : ℕ → Words) where
 
 -- ---- a block that was walked, judged for z
 
+pub walked_long : (bs : List ℕ) (b : Judged) → walk bs ≡ accepted b → (size b.samples ≤ length bs) × (1 ≤ b.samples) × (b.samples ≤ 7680)
+walked_long bs b e = let shape = (walk_accepted bs b e).0 in (omega (arith, shape.size), shape.some, shape.most)
+
 module _ (z : System) (bs : List ℕ) (b : Judged) (e : walk bs ≡ accepted b) where
   -- what follows the test of 6
   abbrev after : Outcome Judged
@@ -91,8 +98,12 @@ module _ (z : System) (bs : List ℕ) (b : Judged) (e : walk bs ≡ accepted b) 
       go true = refl
       go false = refl
 
-  pub no_other_depth : other_depth b.system z ≡ false → judge_for z bs ≡ require (words_ok b bs) 6 (refused 32)
-  no_other_depth o = judged_after ∙ rw o refl
+  pub no_other_depth : other_depth b.system z ≡ false → judge_for z bs ≡ refused (cond (words_ok b bs) 32 6)
+  no_other_depth o = judged_after ∙ rw o (go (words_ok b bs))
+    where
+      go : (k : Bool) → require {A = Judged} k 6 (refused 32) ≡ refused (cond k 32 6)
+      go true = refl
+      go false = refl
 
   module _ (o : other_depth b.system z ≡ true) where
     abbrev passed : Bool
@@ -104,10 +115,10 @@ module _ (z : System) (bs : List ℕ) (b : Judged) (e : walk bs ≡ accepted b) 
     pub all_pass : passed ≡ true → judge_for z bs ≡ accepted b
     all_pass t = let parts = each (words_ok b bs) _ (sym both ∙ t) in judged_after ∙ rw (parts.0, o, parts.1) refl
 
-    pub some_fail : passed ≡ false → judge_for z bs ≡ require (words_ok b bs) 6 (refused 33)
+    pub some_fail : passed ≡ false → judge_for z bs ≡ refused (cond (words_ok b bs) 33 6)
     some_fail t = judged_after ∙ rw o (go (words_ok b bs) (no_timing_to z (row_in z b bs) b.samples) (sym both ∙ t))
       where
-        go : (k n : Bool) → (k && n) ≡ false → require k 6 (require n 33 (accepted b)) ≡ require k 6 (refused 33)
+        go : (k n : Bool) → (k && n) ≡ false → require k 6 (require n 33 (accepted b)) ≡ refused (cond k 33 6)
         go true true f = absurd (false≢true (sym f))
         go true false f = refl
         go false n f = refl

@@ -16,14 +16,15 @@ use Rattle.block.specs.Read.{sections, walk, within_to, judge, header_of, slice_
 use Rattle.block.proofs.Answerable.{judge_answerable, read_for}
 use Rattle.block.proofs.read_block.Statement as read-statement
 use Rattle.block.proofs.read_block.Met as read-met
-use Rattle.depth.specs.declared.Changed.{Changed}
-use Rattle.depth.specs.declared.Changed.TheVariants as answer
-use Rattle.depth.specs.Depth.{other_depth, no_timing_to, row_in, block_in, judge_for, changing, buffer_after, heard, changed_outcome}
+use Rattle.depth.specs.Depth.{other_depth, no_timing_to, row_in, block_in, judge_for, changing, buffer_after, heard}
 use Rattle.depth.proofs.change_depth.Statement as change-statement
 use Rattle.depth.proofs.change_depth.Met as change-met
 use Rattle.depth.proofs.Claims.{Label, Claimed}
 use Rattle.depth.proofs.Card.{label_of, Changes, by_change_depth, Reads, by_read_block, card}
 use Rattle.depth.proofs.Faithful.{Faithful, claimed}
+use Rattle.std.specs.Prelude.{Result, Ok, Err}
+use Rattle.systems.specs.declared.refusal.Refusal.{Refusal}
+use Rattle.systems.specs.Refusals.{outcome}
 
 -- ---- every call comes to something
 
@@ -41,10 +42,10 @@ changing_answerable t bs room =
     followed (judge_for_answerable z bs) (λ b.
     tested (leb (size b.samples) room) refusal.Output (values (block_in z b bs))))
 
--- an answer that says o
-answer_for : {o : Outcome (List ℕ)} → Answerable o → (r : Changed) × (changed_outcome r ≡ heard o)
-answer_for (values p) = (answer.Done, refl)
-answer_for (refusing r) = (answer.Refused r, refl)
+-- an answer that says what is heard of an outcome
+heard_for : {o : Outcome (List ℕ)} → Answerable o → (r : Result (Unit {0}) Refusal) × (outcome r ≡ heard o)
+heard_for (values p) = (Ok tt, refl)
+heard_for (refusing r) = (Err r, refl)
 
 follows : {t : ℕ} {bs out left : List ℕ} {a : Outcome (Unit {0})} → Changes t bs out a left → (a ≡ heard (changing t bs (length out))) × (left ≡ buffer_after t bs out)
 follows (by_change_depth _ _ _ _ _ _ _ post) = post
@@ -57,11 +58,11 @@ faithful = record {
   changes = follows;
   reads = reads_so;
   happens = λ t bs out.
-      let r = answer_for (changing_answerable t bs (length out)) in
+      let r = heard_for (changing_answerable t bs (length out)) in
       (_, _, by_change_depth lifetimes (lend bs) (lend_mut out) (lend bs) (lend_mut (buffer_after t bs out)) t r.0 (r.1, refl));
   reading = λ bs slice.
       let r = read_for bs (length slice) in
-      (_, by_read_block lifetimes (lend bs) (lend_mut slice) (lend bs) (lend_mut (slice_after bs slice)) r.read (r.outcome, refl));
+      (_, by_read_block lifetimes (lend bs) (lend_mut slice) (lend bs) (lend_mut (slice_after bs slice)) r.0 (r.1, refl));
 }
 
 -- each `Post` of the card is that of a contract which the routine meets

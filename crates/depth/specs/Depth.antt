@@ -7,13 +7,10 @@ use Rattle.systems.specs.declared.Matrix.{Matrix}
 use Rattle.systems.specs.declared.Matrix.TheVariants.{Bt709, Bt2020}
 use Rattle.systems.specs.declared.System.{System}
 use Rattle.systems.specs.Systems.{number, matrix, bits, timing, named}
-use Rattle.systems.specs.Refusals.{refusal}
 use Rattle.matrix.specs.declared.Words.{Words}
 use Rattle.block.specs.declared.Judged.{Judged}
 use Rattle.block.specs.Block.{block, size, tabulate}
 use Rattle.block.specs.Read.{sample_at, judge}
-use Rattle.depth.specs.declared.Changed.{Changed}
-use Rattle.depth.specs.declared.Changed.TheVariants as changed
 
 -- two matrices of one Recommendation
 abbrev pub alike : Matrix → Matrix → Bool
@@ -87,8 +84,3 @@ buffer_after n bs out = buffer_by (changing n bs (length out)) out
 abbrev pub heard : Outcome (List ℕ) → Outcome (Unit {0})
 heard (accepted p) = accepted tt
 heard (refused n) = refused n
-
--- what the answer says
-abbrev pub changed_outcome : Changed → Outcome (Unit {0})
-changed_outcome changed.Done = accepted tt
-changed_outcome (changed.Refused r) = refused (refusal r)

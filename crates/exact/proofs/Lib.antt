@@ -8,4 +8,3 @@ pub mod Machine
 pub mod Difference
 pub mod Nearest
 pub mod Lending
-pub mod TowardZero

@@ -23,14 +23,10 @@ pub fn rounded(top: i64, bottom: i64) -> i64
     floor(2 * top + bottom, 2 * bottom)
 }
 
-// A ratio rounded down. Division goes toward zero, which is one above where it leaves something below 0.
+// A ratio rounded down, also below 0.
 pub fn floor(top: i64, bottom: i64) -> i64
     requires { (nat_abs top < 2 ^ 62) × (pos 0 <ℤ bottom) × (nat_abs bottom < 2 ^ 62) }
     ensures { result ≡ shr_z top (nat_abs bottom) }
 {
-    let quotient = top / bottom;
-    if top % bottom < 0 {
-        return quotient - 1;
-    }
-    quotient
+    top.div_euclid(bottom)
 }

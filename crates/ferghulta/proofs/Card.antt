@@ -60,21 +60,21 @@ answer_if false n = refused n
 abbrev pub answer_by : PictureAnswer → Answer
 answer_by a = answer_if (eqb a.refusal 0) a.refusal
 
--- what a reading tells: with refusal 0, the numbers beside it
-abbrev pub label_if : Bool → BlockAnswer → Outcome Label
-label_if true a = outcome.accepted (record { system = a.system; samples = a.samples; row = a.row })
-label_if false a = outcome.refused a.refusal
+-- and then values stand beside it
+abbrev pub values_if : {A : Type 0} → Bool → ℕ → A → Outcome A
+values_if true n a = outcome.accepted a
+values_if false n a = outcome.refused n
 
+abbrev pub values_by : {A : Type 0} → ℕ → A → Outcome A
+values_by n a = values_if (eqb n 0) n a
+
+-- what a reading tells
 abbrev pub label_by : BlockAnswer → Outcome Label
-label_by a = label_if (eqb a.refusal 0) a
+label_by a = values_by a.refusal (record { system = a.system; samples = a.samples; row = a.row })
 
--- the total that is foretold, with refusal 0
-abbrev pub total_if : Bool → TotalAnswer → Outcome ℕ
-total_if true a = outcome.accepted a.bytes
-total_if false a = outcome.refused a.refusal
-
+-- the total that is foretold
 abbrev pub total_by : TotalAnswer → Outcome ℕ
-total_by a = total_if (eqb a.refusal 0) a
+total_by a = values_by a.refusal a.bytes
 
 -- the next call is given the picture that the answer has
 pub data Opens (k : StoredPicture) (n w h : ℕ) : Answer → StoredPicture → Type 0 where
@@ -110,12 +110,8 @@ card = record {
 
 -- ---- metered reads: a meter crosses as it is, and one that is all zero is empty
 
-abbrev pub row_if : Bool → BlockAnswer → Outcome Row
-row_if true a = outcome.accepted (record { system = a.system; row = a.row; samples = a.samples; low = a.clips.low; high = a.clips.high })
-row_if false a = outcome.refused a.refusal
-
 abbrev pub row_by : BlockAnswer → Outcome Row
-row_by a = row_if (eqb a.refusal 0) a
+row_by a = values_by a.refusal (record { system = a.system; row = a.row; samples = a.samples; low = a.clips.low; high = a.clips.high })
 
 pub data MeteredReads (m : Meter) : List ℕ → List ℕ → Outcome Row → List ℕ → Meter → Type 0 where
   by_read_metered : (κs : Lfts 2) (bytes : Bor (List ℕ)) (slice : MutBor (List ℕ)) (bytes' : Bor (List ℕ)) (slice' : MutBor (List ℕ)) (a : MeteredAnswer) (m' : Meter) → read-metered-call.Post κs (m, (bytes, (slice, tt))) a (m', (bytes', (slice', tt)))
@@ -138,23 +134,15 @@ meter_card = record {
 
 -- ---- moving rows and changing depths: the refusal alone is answered
 
-abbrev pub outcome_if : Bool → ℕ → Outcome (Unit {0})
-outcome_if true n = outcome.accepted tt
-outcome_if false n = outcome.refused n
-
 abbrev pub outcome_by : ℕ → Outcome (Unit {0})
-outcome_by n = outcome_if (eqb n 0) n
+outcome_by n = values_by n tt
 
 pub data Moves : Order → List ℕ → List ℕ → Outcome (Unit {0}) → List ℕ → Type 0 where
   by_to_segmented : (κs : Lfts 2) (bs : Bor (List ℕ)) (out : MutBor (List ℕ)) (bs' : Bor (List ℕ)) (out' : MutBor (List ℕ)) (n : ℕ) → to-segmented.Post κs (bs, (out, tt)) n (bs', (out', tt)) → Moves Segmented bs.now out.now (outcome_by n) out'.now
   by_to_progressive : (κs : Lfts 2) (bs : Bor (List ℕ)) (out : MutBor (List ℕ)) (bs' : Bor (List ℕ)) (out' : MutBor (List ℕ)) (n : ℕ) → to-progressive.Post κs (bs, (out, tt)) n (bs', (out', tt)) → Moves Progressive bs.now out.now (outcome_by n) out'.now
 
-abbrev pub depth_label_if : Bool → BlockAnswer → Outcome depth.Label
-depth_label_if true a = outcome.accepted (record { system = a.system; row = a.row; samples = a.samples })
-depth_label_if false a = outcome.refused a.refusal
-
 abbrev pub depth_label_by : BlockAnswer → Outcome depth.Label
-depth_label_by a = depth_label_if (eqb a.refusal 0) a
+depth_label_by a = values_by a.refusal (record { system = a.system; row = a.row; samples = a.samples })
 
 pub data Changes (t : ℕ) : List ℕ → List ℕ → Outcome (Unit {0}) → List ℕ → Type 0 where
   by_change_depth : (κs : Lfts 2) (bytes : Bor (List ℕ)) (out : MutBor (List ℕ)) (bytes' : Bor (List ℕ)) (out' : MutBor (List ℕ)) (t' n : ℕ) → change-depth-call.Post κs (t, (bytes, (out, tt))) n (t', (bytes', (out', tt)))
@@ -186,21 +174,13 @@ reader_card = record {
   Complete = λ k t. t ≡ eqb k.phase 2;
 }
 
--- ---- constant luminance: with refusal 0, what stands beside it
-
-abbrev pub constant_words_if : Bool → ConstantWordsAnswer → Outcome Words
-constant_words_if true a = outcome.accepted a.words
-constant_words_if false a = outcome.refused a.refusal
+-- ---- constant luminance
 
 abbrev pub constant_words_by : ConstantWordsAnswer → Outcome Words
-constant_words_by a = constant_words_if (eqb a.refusal 0) a
-
-abbrev pub constant_codes_if : Bool → ConstantCodesAnswer → Outcome Clipped
-constant_codes_if true a = outcome.accepted (record { codes = a.codes; clips = a.clips })
-constant_codes_if false a = outcome.refused a.refusal
+constant_words_by a = values_by a.refusal a.words
 
 abbrev pub constant_codes_by : ConstantCodesAnswer → Outcome Clipped
-constant_codes_by a = constant_codes_if (eqb a.refusal 0) a
+constant_codes_by a = values_by a.refusal (record { codes = a.codes; clips = a.clips })
 
 pub data Encodes (n : ℕ) (l : Lights) : Outcome Words → Type 0 where
   by_words_of_lights : (n' : ℕ) (l' : Lights) (a : ConstantWordsAnswer) → constant-words-call.Post tt (n, (l, tt)) a (n', (l', tt)) → Encodes n l (constant_words_by a)

@@ -1,14 +1,12 @@
 -- What is claimed of constant luminance, of the exported functions; and that all other calls refuse its numbers.
 -- Assumes nothing.
 use Prim.Native.Nat.{ℕ, ◌≤◌}
-use mathlib.Core.Path.{◌≡◌, refl, ap, ◌∙◌}
-use mathlib.Core.Bool.{Bool}
+use mathlib.Core.Path.{◌≡◌, refl, ap}
 use mathlib.Core.List.{List}
 use borrow.Author.Tests.{le-leb}
 use lib.ListN.{length, get_or}
 use Rattle.exact.specs.Outcome.{Outcome, refused}
 use Rattle.systems.specs.declared.Codes.{Codes}
-use Rattle.systems.specs.Refusals.{refusal}
 use Rattle.systems.specs.Systems.{named}
 use Rattle.systems.proofs.Answerable.{Answerable, values, refusing, never_0}
 use Rattle.light.specs.Light.{code_of_light, span_of_code}
@@ -31,15 +29,15 @@ use Rattle.constant_luminance.proofs.Theorem.{words_answerable, codes_answerable
 use Rattle.ferghulta.specs.declared.constant_calls.ConstantWordsAnswer.{ConstantWordsAnswer}
 use Rattle.ferghulta.specs.declared.constant_calls.ConstantCodesAnswer.{ConstantCodesAnswer}
 use Rattle.ferghulta.specs.Answers.{constant_words_answer, constant_codes_answer}
-use Rattle.ferghulta.proofs.Card.{constant_words_if, constant_words_by, constant_codes_if, constant_codes_by, Encodes, by_words_of_lights, Decodes, by_codes_of_words, constant_card}
+use Rattle.ferghulta.proofs.Card.{constant_words_by, constant_codes_by, Encodes, by_words_of_lights, Decodes, by_codes_of_words, constant_card}
 
 words_told : {o : Outcome Words} {a : ConstantWordsAnswer} → Answerable o → a ≡ constant_words_answer o → constant_words_by a ≡ o
 words_told (values w) e = ap constant_words_by e
-words_told (refusing r) e = ap constant_words_by e ∙ ap (λ (b : Bool). constant_words_if b (constant_words_answer (refused (refusal r)))) (never_0 r)
+words_told (refusing r) e = rw e (simp (never_0 r))
 
 codes_told : {o : Outcome Clipped} {a : ConstantCodesAnswer} → Answerable o → a ≡ constant_codes_answer o → constant_codes_by a ≡ o
 codes_told (values c) e = ap constant_codes_by e
-codes_told (refusing r) e = ap constant_codes_by e ∙ ap (λ (b : Bool). constant_codes_if b (constant_codes_answer (refused (refusal r)))) (never_0 r)
+codes_told (refusing r) e = rw e (simp (never_0 r))
 
 encodes_so : {n : ℕ} {l : Lights} {a : Outcome Words} → Encodes n l a → a ≡ constant.words_of_lights n l
 encodes_so {n} {l} (by_words_of_lights _ _ _ post) = words_told (words_answerable n l) post

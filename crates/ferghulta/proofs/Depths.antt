@@ -1,14 +1,11 @@
 -- What is claimed of changing depths, of the exported functions.
 -- Assumes nothing.
 use Prim.Native.Nat.{ℕ}
-use mathlib.Core.Path.{◌≡◌, refl, ap, ◌∙◌}
-use mathlib.Core.Bool.{Bool}
+use mathlib.Core.Path.{◌≡◌, refl, ap}
 use mathlib.Core.List.{List}
 use lib.ListN.{length}
-use Rattle.exact.specs.Outcome as outcome
 use Rattle.exact.specs.Outcome.{Outcome}
 use Rattle.exact.proofs.Lending.{lend, lend_mut, lifetimes}
-use Rattle.systems.specs.Refusals.{refusal}
 use Rattle.systems.proofs.Answerable.{Answerable, values, refusing, never_0}
 use Rattle.block.specs.declared.Header.{Header}
 use Rattle.block.specs.Read.{header_of, slice_after}
@@ -20,18 +17,18 @@ use Rattle.depth.proofs.Faithful.{claimed}
 use Rattle.depth.proofs.Theorem.{changing_answerable}
 use Rattle.ferghulta.specs.declared.calls.BlockAnswer.{BlockAnswer}
 use Rattle.ferghulta.specs.Answers.{refusal_answer, block_answer}
-use Rattle.ferghulta.proofs.Card.{outcome_if, outcome_by, depth_label_if, depth_label_by, Changes, by_change_depth, LabelReads, by_read_label, depth_card}
+use Rattle.ferghulta.proofs.Card.{outcome_by, depth_label_by, Changes, by_change_depth, LabelReads, by_read_label, depth_card}
 
 tells : {o : Outcome (List ℕ)} {n : ℕ} → Answerable o → n ≡ refusal_answer (heard o) → outcome_by n ≡ heard o
 tells (values p) e = ap outcome_by e
-tells (refusing r) e = ap outcome_by e ∙ ap (λ (b : Bool). outcome_if b (refusal r)) (never_0 r)
+tells (refusing r) e = rw e (simp (never_0 r))
 
 changes_so : {t : ℕ} {bs out left : List ℕ} {a : Outcome (Unit {0})} → Changes t bs out a left → (a ≡ heard (changing t bs (length out))) × (left ≡ buffer_after t bs out)
 changes_so {t} (by_change_depth _ bs out _ _ _ _ post) = (tells (changing_answerable t bs.now (length out.now)) post.0, post.1)
 
 labels : {o : Outcome Header} {a : BlockAnswer} → Answerable o → a ≡ block_answer o → depth_label_by a ≡ label_of o
 labels (values h) e = ap depth_label_by e
-labels (refusing r) e = ap depth_label_by e ∙ ap (λ (b : Bool). depth_label_if b (block_answer (outcome.refused (refusal r)))) (never_0 r)
+labels (refusing r) e = rw e (simp (never_0 r))
 
 reads_so : {bs slice : List ℕ} {r : Outcome Label} → LabelReads bs slice r → r ≡ label_of (header_of bs (length slice))
 reads_so (by_read_label _ bs slice _ _ _ post) = labels (reading_answerable bs.now (length slice.now)) post.0

@@ -2,12 +2,9 @@
 -- Assumes nothing.
 use Prim.Native.Nat.{ℕ}
 use mathlib.Core.Path.{◌≡◌, refl, ap, ◌∙◌}
-use mathlib.Core.Bool.{Bool}
 use mathlib.Core.List.{List}
 use lib.ListN.{length}
-use Rattle.exact.specs.Outcome as outcome
 use Rattle.exact.specs.Outcome.{Outcome}
-use Rattle.systems.specs.Refusals.{refusal}
 use Rattle.systems.proofs.Answerable.{Answerable, values, refusing, never_0}
 use Rattle.block.specs.declared.Header.{Header}
 use Rattle.block.specs.Read.{header_of, slice_after}
@@ -28,17 +25,14 @@ use Rattle.ferghulta.specs.declared.picture_calls.PictureAnswer.{PictureAnswer}
 use Rattle.ferghulta.specs.declared.picture_calls.TotalAnswer.{TotalAnswer}
 use Rattle.ferghulta.specs.Answers.{block_answer}
 use Rattle.ferghulta.specs.Stored.{picture_of, picture_answer, total_answer}
-use Rattle.ferghulta.proofs.Card.{answer_if, answer_by, label_if, label_by, total_if, total_by, Opens, by_open, Rows, by_row, Closes, by_close, Reads, by_read_block, Totals, by_total_bytes, card}
+use Rattle.ferghulta.proofs.Card.{answer_by, label_by, total_by, Opens, by_open, Rows, by_row, Closes, by_close, Reads, by_read_block, Totals, by_total_bytes, card}
 use Rattle.ferghulta.proofs.Stored.{stored_returns, taken_proper}
 
 -- a call on k whose outcome on the phase is o, and on the bytes b
 follows : (k : StoredPicture) {o : Outcome Phase} (b : ℕ) {a : PictureAnswer} → Answerable o → Proper (leads (picture_of k) (around o b)) → a ≡ picture_answer k (around o b)
     → Follows (picture_of k) (around o b) (answer_by a) (picture_of a.picture)
 follows k b (values f) g e = record { same = ap answer_by e; next = ap (λ (x : PictureAnswer). picture_of x.picture) e ∙ stored_returns (at f b) g }
-follows k b (refusing r) g e = record {
-  same = ap answer_by e ∙ ap (λ (b : Bool). answer_if b (refusal r)) (never_0 r);
-  next = ap (λ (x : PictureAnswer). picture_of x.picture) e;
-}
+follows k b (refusing r) g e = record { same = rw e (simp (never_0 r)); next = ap (λ (x : PictureAnswer). picture_of x.picture) e }
 
 opens_so : {k k' : StoredPicture} {n w h : ℕ} {answer : Answer} → Opens k n w h answer k' → Follows (picture_of k) (opening (picture_of k) n w h) answer (picture_of k')
 opens_so {k} {n = n} {w = w} {h = h} (by_open a _ _ _ _ post) =
@@ -56,14 +50,14 @@ closes_so {k} (by_close a _ post) =
 
 tells : {o : Outcome Header} {a : BlockAnswer} → Answerable o → a ≡ block_answer o → label_by a ≡ label_of o
 tells (values h) e = ap label_by e
-tells (refusing r) e = ap label_by e ∙ ap (λ (b : Bool). label_if b (block_answer (outcome.refused (refusal r)))) (never_0 r)
+tells (refusing r) e = rw e (simp (never_0 r))
 
 reads_so : {bytes slice left : List ℕ} {r : Outcome Label} → Reads bytes slice r left → (r ≡ label_of (header_of bytes (length slice))) × (left ≡ slice_after bytes slice)
 reads_so (by_read_block _ bytes slice _ _ a post) = (tells (reading_answerable bytes.now (length slice.now)) post.0, post.1)
 
 foretells : {o : Outcome ℕ} {a : TotalAnswer} → Answerable o → a ≡ total_answer o → total_by a ≡ o
 foretells (values b) e = ap total_by e
-foretells (refusing r) e = ap total_by e ∙ ap (λ (b : Bool). total_if b (total_answer (outcome.refused (refusal r)))) (never_0 r)
+foretells (refusing r) e = rw e (simp (never_0 r))
 
 totals_so : {w h : ℕ} {r : Outcome ℕ} → Totals w h r → r ≡ total_bytes w h
 totals_so {w} {h} (by_total_bytes a _ _ post) = foretells (total_answerable w h) post

@@ -1,14 +1,11 @@
 -- What is claimed of metered reads, of the exported functions.
 -- Assumes nothing.
 use Prim.Native.Nat.{ℕ}
-use mathlib.Core.Path.{◌≡◌, refl, ap, ◌∙◌}
-use mathlib.Core.Bool.{Bool}
+use mathlib.Core.Path.{◌≡◌, refl, ap}
 use mathlib.Core.List.{List}
 use lib.ListN.{length}
-use Rattle.exact.specs.Outcome as outcome
 use Rattle.exact.specs.Outcome.{Outcome}
 use Rattle.exact.proofs.Lending.{lend, lend_mut, lifetimes}
-use Rattle.systems.specs.Refusals.{refusal}
 use Rattle.systems.proofs.Answerable.{Answerable, values, refusing, never_0}
 use Rattle.block.specs.declared.Header.{Header}
 use Rattle.block.specs.Read.{header_of, slice_after}
@@ -16,17 +13,17 @@ use Rattle.block.proofs.Answerable.{reading_answerable}
 use Rattle.block.proofs.Told.{Row, told}
 use Rattle.meter.specs.declared.Figures.{Figures}
 use Rattle.meter.specs.declared.Meter.{Meter}
-use Rattle.meter.specs.Meter.{total, figures}
+use Rattle.meter.specs.Meter.{figures}
 use Rattle.meter.proofs.Claims.{Claimed}
 use Rattle.meter.proofs.Lists.{Follows, claimed}
 use Rattle.ferghulta.specs.declared.calls.BlockAnswer.{BlockAnswer}
 use Rattle.ferghulta.specs.declared.meter_calls.MeteredAnswer.{MeteredAnswer}
 use Rattle.ferghulta.specs.Answers.{block_answer, metered_answer}
-use Rattle.ferghulta.proofs.Card.{row_if, row_by, MeteredReads, by_read_metered, BlockReads, by_read, Shows, by_figures, meter_card}
+use Rattle.ferghulta.proofs.Card.{row_by, MeteredReads, by_read_metered, BlockReads, by_read, Shows, by_figures, meter_card}
 
 pub tells : {o : Outcome Header} {a : BlockAnswer} → Answerable o → a ≡ block_answer o → row_by a ≡ told o
 tells (values h) e = ap row_by e
-tells (refusing r) e = ap row_by e ∙ ap (λ (b : Bool). row_if b (block_answer (outcome.refused (refusal r)))) (never_0 r)
+tells (refusing r) e = rw e (simp (never_0 r))
 
 reads_so : {m m' : Meter} {bytes slice left : List ℕ} {o : Outcome Row} → MeteredReads m bytes slice o left m' → Follows m bytes slice o left m'
 reads_so (by_read_metered _ bytes slice _ _ a _ post) = record {
@@ -42,7 +39,6 @@ shows_so : {m : Meter} {f : Figures} → Shows m f → f ≡ figures m
 shows_so (by_figures _ post) = post
 
 pub metered : Claimed meter_card
-unfolding total
 metered = claimed (record {
   empties = λ made. made;
   reads = reads_so;

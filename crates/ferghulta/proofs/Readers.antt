@@ -2,25 +2,23 @@
 -- Assumes nothing.
 use Prim.Native.Nat.{ℕ}
 use mathlib.Core.Path.{◌≡◌, refl, sym, ap, ◌∙◌}
-use mathlib.Core.Bool.{Bool, false, ◌&&◌}
+use mathlib.Core.Bool.{false, ◌&&◌}
 use mathlib.Core.List.{List, map}
-use native.Mathlib.Omega.{arith}
 use lib.Dec.{eqb}
 use lib.ListN.{length}
 use borrow.Author.Tests.{eqb-true}
+use Rattle.std.specs.Prelude.{Option, Some, None}
 use Rattle.exact.specs.Outcome.{Outcome, accepted, refused}
 use Rattle.exact.proofs.Lending.{lend, lend_mut, lifetimes}
 use Rattle.systems.specs.declared.System.{System}
 use Rattle.systems.specs.declared.System.TheVariants.{Bt709Bits8, Bt709Bits10, Bt2020Bits10, Bt2020Bits12}
 use Rattle.systems.specs.Systems.{number, named}
-use Rattle.systems.specs.Refusals.{refusal}
 use Rattle.systems.proofs.Answerable.{Answerable, values, refusing, never_0}
 use Rattle.systems.proofs.Scales.{named_number}
 use Rattle.block.proofs.Told.{Row, told}
 use Rattle.picture.proofs.Agreement.{split}
 use Rattle.picture.proofs.Card.{leads}
 use Rattle.reader.specs.declared.Format.{Format}
-use Rattle.reader.specs.declared.Format.TheVariants.{Unknown, Of}
 use Rattle.reader.specs.declared.Progress.{Progress}
 use Rattle.reader.specs.declared.Phase.{Phase}
 use Rattle.reader.specs.declared.Phase.TheVariants.{Unopened, Reading, Complete}
@@ -40,7 +38,7 @@ use Rattle.ferghulta.specs.declared.stored_reader.StoredReader.{StoredReader}
 use Rattle.ferghulta.specs.declared.reader_calls.ReaderAnswer.{ReaderAnswer}
 use Rattle.ferghulta.specs.declared.reader_calls.NextAnswer.{NextAnswer}
 use Rattle.ferghulta.specs.StoredReader.{stored_with, stored_phase, stored_reader, reading_in, reading_of, reader_phase, reader_of, reader_answer, next_answer}
-use Rattle.ferghulta.proofs.Card.{outcome_if, outcome_by, row_by, ReaderOpens, by_open_reader, NextReads, by_read_next, card, reader_card}
+use Rattle.ferghulta.proofs.Card.{outcome_by, row_by, ReaderOpens, by_open_reader, NextReads, by_read_next, card, reader_card}
 use Rattle.ferghulta.proofs.Exported as exported
 use Rattle.ferghulta.proofs.Histories.{answering}
 use Rattle.ferghulta.proofs.Metered.{tells, blocks_so}
@@ -53,9 +51,9 @@ number_not_0 Bt709Bits10 = refl
 number_not_0 Bt2020Bits10 = refl
 number_not_0 Bt2020Bits12 = refl
 
-reading_returns : (f : Format) (h n : ℕ) → reader_phase (stored_with f (record { height = h; next = n; format = f })) ≡ Reading (record { height = h; next = n; format = f })
-reading_returns Unknown h n = refl
-reading_returns (Of y w) h n = simp (number_not_0 y, named_number y)
+reading_returns : (f : Option Format) (h n : ℕ) → reader_phase (stored_with f (record { height = h; next = n; format = f })) ≡ Reading (record { height = h; next = n; format = f })
+reading_returns None h n = refl
+reading_returns (Some f) h n = simp (number_not_0 f.system, named_number f.system)
 
 phase_returns : (f : Phase) → reader_phase (stored_phase f) ≡ f
 phase_returns Unopened = refl
@@ -74,7 +72,7 @@ reading_not_complete k = split (eqb k.system 0 && eqb k.width 0) (λ t. simp t (
     progress p = split (proper p) (λ e. simp e) (λ e. simp e)
 
     by : (o : Outcome System) → is_complete (resumed (reading_in k o)) ≡ false
-    by (accepted y) = progress (record { height = k.height; next = k.next; format = Of y k.width })
+    by (accepted y) = progress (record { height = k.height; next = k.next; format = Some (record { system = y; width = k.width }) })
     by (refused n) = refl
 
 complete_told : (k : StoredReader) → eqb k.phase 2 ≡ is_complete (reader_of k).phase
@@ -89,7 +87,7 @@ opened_so : (k : StoredReader) {o : Outcome Reader} {a : ReaderAnswer} → Answe
     → (outcome_by a.refusal ≡ heard o) × (reader_of a.reader ≡ leads (reader_of k) o)
 opened_so k (values r) g e = (ap (λ (x : ReaderAnswer). outcome_by x.refusal) e, ap (λ (x : ReaderAnswer). reader_of x.reader) e ∙ stored_returns r g)
 opened_so k (refusing r) g e =
-    (ap (λ (x : ReaderAnswer). outcome_by x.refusal) e ∙ ap (λ (b : Bool). outcome_if b (refusal r)) (never_0 r), ap (λ (x : ReaderAnswer). reader_of x.reader) e)
+    (rw e (simp (never_0 r)), ap (λ (x : ReaderAnswer). reader_of x.reader) e)
 
 opens_so : {k k' : StoredReader} {h : ℕ} {o : Outcome (Unit {0})} → ReaderOpens k h o k' → (o ≡ heard (opening (reader_of k) h)) × (reader_of k' ≡ leads (reader_of k) (opening (reader_of k) h))
 opens_so {k} {h = h} (by_open_reader a _ _ post) = opened_so k (opening_answerable (reader_of k) h) (open_proper (reader_of k) h (resumed_proper (reader_phase k))) post
@@ -112,14 +110,14 @@ open_given : {k k' : StoredReader} {h : ℕ} {o : Outcome (Unit {0})} → Reader
 open_given {k} {h = h} (by_open_reader a _ _ post) n e = by (opening_answerable (reader_of k) h) post
   where
     by : {o : Outcome Reader} → Answerable o → a ≡ reader_answer k o → a.reader ≡ k
-    by (values r) s = let z : refused n ≡ accepted tt = e ∙ ap (λ (x : ReaderAnswer). outcome_by x.refusal) s in let i : ◌≡◌ {A = ℕ} 0 1 = cc in absurd (omega arith)
+    by (values r) s = let z : refused n ≡ accepted tt = e ∙ ap (λ (x : ReaderAnswer). outcome_by x.refusal) s in cc
     by (refusing r) s = ap (λ (x : ReaderAnswer). x.reader) s
 
 read_given : {k k' : StoredReader} {bytes slice left : List ℕ} {o : Outcome Row} → NextReads k bytes slice o left k' → (n : ℕ) → refused n ≡ o → k' ≡ k
 read_given {k} (by_read_next _ bytes slice _ _ a _ post) n e = by (taking_answerable (reader_of k).phase bytes.now (length slice.now)) post.0
   where
     by : {o : Outcome Taken} → Answerable o → a ≡ next_answer k o → a.reader ≡ k
-    by (values t) s = let z : refused n ≡ told (accepted t.header) = e ∙ ap (λ (x : NextAnswer). row_by x.block) s in let i : ◌≡◌ {A = ℕ} 0 1 = cc in absurd (omega arith)
+    by (values t) s = let z : refused n ≡ told (accepted t.header) = e ∙ ap (λ (x : NextAnswer). row_by x.block) s in cc
     by (refusing r) s = ap (λ (x : NextAnswer). x.reader) s
 
 pub faithful : Faithful reader_card

@@ -10,7 +10,7 @@ use Rattle.picture.specs.Picture.{at}
 use Rattle.picture.proofs.Claims.{Proper}
 use Rattle.picture.proofs.Resume.{resumed_proper, resumed_same}
 use Rattle.ferghulta.specs.declared.stored_picture.StoredPicture.{StoredPicture}
-use Rattle.ferghulta.specs.Stored.{stored_open, stored_at, open_in, phase_of, stored, picture_of}
+use Rattle.ferghulta.specs.Stored.{stored_at, open_in, phase_of, stored, picture_of}
 
 phase_returns : (f : Phase) (b : ℕ) → phase_of (stored_at f b) ≡ f
 phase_returns Fresh b = refl

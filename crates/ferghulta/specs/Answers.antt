@@ -28,6 +28,11 @@ use Rattle.ferghulta.specs.declared.constant_calls.ConstantWordsAnswer.{Constant
 use Rattle.ferghulta.specs.declared.constant_calls.ConstantCodesAnswer.{ConstantCodesAnswer}
 use Rattle.ferghulta.specs.declared.meter_calls.MeteredAnswer.{MeteredAnswer}
 
+-- an answer in parts: 0 and its values, or the refusal's number and the values that stand for none
+abbrev pub in_parts : {A : Type 0} → Outcome A → A → ℕ × A
+in_parts (accepted a) nothing = (0, a)
+in_parts (refused n) nothing = (n, nothing)
+
 abbrev pub code_answer : Outcome ℕ → CodeAnswer
 code_answer (accepted d) = record { refusal = 0; code = d }
 code_answer (refused n) = record { refusal = n; code = 0 }
@@ -55,7 +60,7 @@ no_words = record { y = 0; cb = 0; cr = 0 }
 
 abbrev pub words_answer : Outcome Limited → WordsAnswer
 words_answer (accepted l) = record { refusal = 0; moved = l.moved; words = l.words }
-words_answer (refused n) = record { refusal = n; moved = 0; words = record { y = 0; cb = 0; cr = 0 } }
+words_answer (refused n) = record { refusal = n; moved = 0; words = no_words }
 
 abbrev pub decoded_answer : Outcome Clipped → DecodedAnswer
 decoded_answer (accepted c) = record { refusal = 0; clips = c.clips; codes = c.codes }

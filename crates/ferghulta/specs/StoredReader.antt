@@ -1,11 +1,10 @@
 -- A picture reader as a caller in C stores it, and the answers of its calls (request 2026-10).
 -- Definitions only.
-use Rattle.std.specs.Prelude.{ℕ, Bool, true, false, ◌&&◌, cond, eqb}
+use Rattle.std.specs.Prelude.{Option, Some, None, ℕ, Bool, true, false, ◌&&◌, cond, eqb}
 use Rattle.exact.specs.Outcome.{Outcome, accepted, refused}
 use Rattle.systems.specs.declared.System.{System}
 use Rattle.systems.specs.Systems.{number, named}
 use Rattle.reader.specs.declared.Format.{Format}
-use Rattle.reader.specs.declared.Format.TheVariants.{Unknown, Of}
 use Rattle.reader.specs.declared.Progress.{Progress}
 use Rattle.reader.specs.declared.Phase.{Phase}
 use Rattle.reader.specs.declared.Phase.TheVariants.{Unopened, Reading, Complete}
@@ -23,9 +22,9 @@ abbrev pub stored_idle : ℕ → StoredReader
 stored_idle n = record { phase = n; system = 0; width = 0; height = 0; next = 0 }
 
 -- system and width are 0 before the first row
-abbrev pub stored_with : Format → Progress → StoredReader
-stored_with Unknown p = record { phase = 1; system = 0; width = 0; height = p.height; next = p.next }
-stored_with (Of y w) p = record { phase = 1; system = number y; width = w; height = p.height; next = p.next }
+abbrev pub stored_with : Option Format → Progress → StoredReader
+stored_with None p = record { phase = 1; system = 0; width = 0; height = p.height; next = p.next }
+stored_with (Some f) p = record { phase = 1; system = number f.system; width = f.width; height = p.height; next = p.next }
 
 abbrev pub stored_progress : Progress → StoredReader
 stored_progress p = stored_with p.format p
@@ -41,13 +40,13 @@ stored_reader r = stored_phase r.phase
 -- ---- and back: a phase that no call made is taken as not opened
 
 abbrev pub reading_in : StoredReader → Outcome System → Phase
-reading_in k (accepted y) = Reading (record { height = k.height; next = k.next; format = Of y k.width })
+reading_in k (accepted y) = Reading (record { height = k.height; next = k.next; format = Some (record { system = y; width = k.width }) })
 reading_in k (refused n) = Unopened
 
 abbrev pub reading_of : StoredReader → Phase
 reading_of k =
     cond (eqb k.system 0 && eqb k.width 0)
-    (Reading (record { height = k.height; next = k.next; format = Unknown }))
+    (Reading (record { height = k.height; next = k.next; format = None }))
     (reading_in k (named k.system))
 
 -- the phase, by whether its number is 1 and by whether it is 2

@@ -1,10 +1,14 @@
 // The calls on constant luminance. An answer's refusal is 0 where the call was accepted; where it was refused, its other numbers are 0.
 ghost use Rattle.std.specs.Prelude.{◌≡◌};
+ghost use Rattle.systems.specs.Refusals.{outcome};
 ghost use Rattle.constant_luminance.specs.ConstantLuminance.{words_of_lights, codes_of_words};
 ghost use Rattle.ferghulta.specs.Answers.{constant_words_answer, constant_codes_answer};
 
-use constant_luminance::{Decoded, Encoded, Lights, RedBlue};
+use crate::calls::NO_WORDS;
+use crate::refusals::in_parts;
+use constant_luminance::{Clipped, Lights, RedBlue};
 use matrix::{Clips, Words};
+use systems::Refusal;
 
 #[repr(C)]
 #[derive(Clone, Copy)]
@@ -21,6 +25,32 @@ pub struct ConstantCodesAnswer {
     pub codes: RedBlue,
 }
 
+impl From<Result<Words, Refusal>> for ConstantWordsAnswer {
+    ghost from_gives = { λ found answer. answer ≡ constant_words_answer (outcome found) };
+
+    fn from(found: Result<Words, Refusal>) -> ConstantWordsAnswer {
+        let (refusal, words) = in_parts(found, NO_WORDS);
+        ConstantWordsAnswer { refusal, words }
+    }
+}
+
+impl From<Result<Clipped, Refusal>> for ConstantCodesAnswer {
+    ghost from_gives = { λ found answer. answer ≡ constant_codes_answer (outcome found) };
+
+    fn from(found: Result<Clipped, Refusal>) -> ConstantCodesAnswer {
+        let nothing = Clipped {
+            codes: RedBlue { r: 0, b: 0 },
+            clips: Clips::NONE,
+        };
+        let (refusal, Clipped { codes, clips }) = in_parts(found, nothing);
+        ConstantCodesAnswer {
+            refusal,
+            clips,
+            codes,
+        }
+    }
+}
+
 #[unsafe(no_mangle)]
 pub extern "C" fn ferghulta_constant_words_of_lights(
     system: u32,
@@ -28,13 +58,7 @@ pub extern "C" fn ferghulta_constant_words_of_lights(
 ) -> ConstantWordsAnswer
     ensures { result ≡ constant_words_answer (words_of_lights system lights) }
 {
-    match constant_luminance::words_of_lights(system, lights) {
-        Encoded::Words(words) => ConstantWordsAnswer { refusal: 0, words },
-        Encoded::Refused(r) => ConstantWordsAnswer {
-            refusal: r.number(),
-            words: Words { y: 0, cb: 0, cr: 0 },
-        },
-    }
+    constant_luminance::words_of_lights(system, lights).into()
 }
 
 #[unsafe(no_mangle)]
@@ -44,20 +68,5 @@ pub extern "C" fn ferghulta_constant_codes_of_words(
 ) -> ConstantCodesAnswer
     ensures { result ≡ constant_codes_answer (codes_of_words system words) }
 {
-    match constant_luminance::codes_of_words(system, words) {
-        Decoded::Codes(c) => {
-            let clips = c.clips;
-            let codes = c.codes;
-            ConstantCodesAnswer {
-                refusal: 0,
-                clips,
-                codes,
-            }
-        }
-        Decoded::Refused(r) => ConstantCodesAnswer {
-            refusal: r.number(),
-            clips: Clips::NONE,
-            codes: RedBlue { r: 0, b: 0 },
-        },
-    }
+    constant_luminance::codes_of_words(system, words).into()
 }

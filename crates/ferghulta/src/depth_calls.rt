@@ -1,9 +1,9 @@
 // The call that changes the depth of a block. It answers the refusal's number, or 0.
 ghost use Rattle.std.specs.Prelude.{◌≡◌, length};
-ghost use Rattle.depth.specs.Depth.{changing, buffer_after, heard, changed_outcome};
+ghost use Rattle.depth.specs.Depth.{changing, buffer_after, heard};
 ghost use Rattle.ferghulta.specs.Answers.{refusal_answer};
 
-use depth::Changed;
+use crate::refusals::refusal_of;
 
 #[unsafe(no_mangle)]
 pub extern "C" fn ferghulta_change_depth(target: u32, bytes: &[u8], out: &mut [u8]) -> u32
@@ -11,13 +11,4 @@ pub extern "C" fn ferghulta_change_depth(target: u32, bytes: &[u8], out: &mut [u
     ensures out_after { out.new ≡ buffer_after target bytes.now out.old }
 {
     refusal_of(depth::change_depth(target, bytes, out))
-}
-
-fn refusal_of(changed: Changed) -> u32
-    ensures { result ≡ refusal_answer (changed_outcome changed) }
-{
-    match changed {
-        Changed::Done => 0,
-        Changed::Refused(r) => r.number(),
-    }
 }

@@ -7,6 +7,7 @@ mod depth_calls;
 mod meter_calls;
 mod picture_calls;
 mod reader_calls;
+mod refusals;
 mod segmented_calls;
 mod stored_picture;
 mod stored_reader;

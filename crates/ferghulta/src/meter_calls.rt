@@ -26,9 +26,8 @@ pub extern "C" fn ferghulta_read_metered(
     ensures codes_after { codes.new ≡ slice_after bytes.now codes.old }
 {
     let block = ferghulta_read_block(bytes, codes);
-    let clips = block.clips;
     let after = if block.refusal == 0 {
-        meter.with_row(clips)
+        meter.with_row(block.clips)
     } else {
         meter
     };

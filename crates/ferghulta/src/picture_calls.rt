@@ -1,11 +1,14 @@
 // The calls on a picture. A refused call gives back the picture that it was given.
 ghost use Rattle.std.specs.Prelude.{◌≡◌, length};
+ghost use Rattle.systems.specs.Refusals.{outcome};
 ghost use Rattle.picture.specs.declared.Phase.TheVariants.{Fresh};
-ghost use Rattle.picture.specs.Picture.{at, total_bytes, opening, rowing, buffer_after, closing, picture_outcome};
+ghost use Rattle.picture.specs.Picture.{at, total_bytes, opening, rowing, buffer_after, closing};
 ghost use Rattle.ferghulta.specs.Stored.{stored, picture_of, picture_answer, total_answer};
 
-use crate::stored_picture::{StoredPicture, picture_of, stored};
-use picture::{Change, Picture, Total};
+use crate::refusals::in_parts;
+use crate::stored_picture::StoredPicture;
+use picture::Picture;
+use systems::Refusal;
 
 #[repr(C)]
 #[derive(Clone, Copy)]
@@ -21,24 +24,27 @@ pub struct TotalAnswer {
     pub bytes: u32,
 }
 
+impl From<Result<u32, Refusal>> for TotalAnswer {
+    ghost from_gives = { λ found answer. answer ≡ total_answer (outcome found) };
+
+    fn from(found: Result<u32, Refusal>) -> TotalAnswer {
+        let (refusal, bytes) = in_parts(found, 0);
+        TotalAnswer { refusal, bytes }
+    }
+}
+
 #[unsafe(no_mangle)]
 pub extern "C" fn ferghulta_total_bytes(width: u32, height: u32) -> TotalAnswer
     ensures { result ≡ total_answer (total_bytes width height) }
 {
-    match picture::total_bytes(width, height) {
-        Total::Bytes(bytes) => TotalAnswer { refusal: 0, bytes },
-        Total::Refused(r) => TotalAnswer {
-            refusal: r.number(),
-            bytes: 0,
-        },
-    }
+    picture::total_bytes(width, height).into()
 }
 
 #[unsafe(no_mangle)]
 pub extern "C" fn ferghulta_new() -> StoredPicture
     ensures { result ≡ stored (at Fresh 0) }
 {
-    stored(Picture::new())
+    Picture::new().into()
 }
 
 #[unsafe(no_mangle)]
@@ -50,8 +56,7 @@ pub extern "C" fn ferghulta_open(
 ) -> PictureAnswer
     ensures { result ≡ picture_answer picture (opening (picture_of picture) system width height) }
 {
-    let p = picture_of(picture);
-    answer(picture, p.open(system, width, height))
+    answer(picture, Picture::from(picture).open(system, width, height))
 }
 
 #[unsafe(no_mangle)]
@@ -63,29 +68,20 @@ pub extern "C" fn ferghulta_row(
     ensures value { result ≡ picture_answer picture (rowing (picture_of picture) lights.now (length out.old)) }
     ensures out_after { out.new ≡ buffer_after (picture_of picture) lights.now out.old }
 {
-    let p = picture_of(picture);
-    answer(picture, p.row(lights, out))
+    answer(picture, Picture::from(picture).row(lights, out))
 }
 
 #[unsafe(no_mangle)]
 pub extern "C" fn ferghulta_close(picture: StoredPicture) -> PictureAnswer
     ensures { result ≡ picture_answer picture (closing (picture_of picture)) }
 {
-    let p = picture_of(picture);
-    answer(picture, p.close())
+    answer(picture, Picture::from(picture).close())
 }
 
-fn answer(given: StoredPicture, change: Change) -> PictureAnswer
-    ensures { result ≡ picture_answer given (picture_outcome change) }
+// The picture that was given takes part, so this is no From of the change alone.
+fn answer(given: StoredPicture, change: Result<Picture, Refusal>) -> PictureAnswer
+    ensures { result ≡ picture_answer given (outcome change) }
 {
-    match change {
-        Change::To(p) => PictureAnswer {
-            refusal: 0,
-            picture: stored(p),
-        },
-        Change::Refused(r) => PictureAnswer {
-            refusal: r.number(),
-            picture: given,
-        },
-    }
+    let (refusal, picture) = in_parts(change.map(StoredPicture::from), given);
+    PictureAnswer { refusal, picture }
 }

@@ -1,13 +1,16 @@
 // The calls on a picture reader. A refused call gives back the reader that it was given. As a metered read does, a block's call reads
 // by the exported reading, after the reader was asked for the block's turn.
 ghost use Rattle.std.specs.Prelude.{◌≡◌, length};
+ghost use Rattle.systems.specs.Refusals.{outcome};
 ghost use Rattle.reader.specs.declared.Phase.TheVariants.{Unopened};
-ghost use Rattle.reader.specs.Reader.{at, opening, taking, slice_after, reader_outcome};
+ghost use Rattle.reader.specs.Reader.{at, opening, taking, slice_after};
 ghost use Rattle.ferghulta.specs.StoredReader.{stored_reader, reader_of, reader_answer, next_answer};
 
-use crate::calls::{BlockAnswer, ferghulta_read_block, not_read};
-use crate::stored_reader::{StoredReader, reader_of, stored_reader};
-use reader::{Change, Reader};
+use crate::calls::{BlockAnswer, ferghulta_read_block};
+use crate::refusals::in_parts;
+use crate::stored_reader::StoredReader;
+use reader::Reader;
+use systems::Refusal;
 
 #[repr(C)]
 #[derive(Clone, Copy)]
@@ -27,30 +30,22 @@ pub struct NextAnswer {
 pub extern "C" fn ferghulta_new_reader() -> StoredReader
     ensures { result ≡ stored_reader (at Unopened) }
 {
-    stored_reader(Reader::new())
+    Reader::new().into()
 }
 
 #[unsafe(no_mangle)]
 pub extern "C" fn ferghulta_open_reader(reader: StoredReader, height: u32) -> ReaderAnswer
     ensures { result ≡ reader_answer reader (opening (reader_of reader) height) }
 {
-    let r = reader_of(reader);
-    answer(reader, r.open(height))
+    answer(reader, Reader::from(reader).open(height))
 }
 
-fn answer(given: StoredReader, change: Change) -> ReaderAnswer
-    ensures { result ≡ reader_answer given (reader_outcome change) }
+// The reader that was given takes part, so this is no From of the change alone.
+fn answer(given: StoredReader, change: Result<Reader, Refusal>) -> ReaderAnswer
+    ensures { result ≡ reader_answer given (outcome change) }
 {
-    match change {
-        Change::To(r) => ReaderAnswer {
-            refusal: 0,
-            reader: stored_reader(r),
-        },
-        Change::Refused(r) => ReaderAnswer {
-            refusal: r.number(),
-            reader: given,
-        },
-    }
+    let (refusal, reader) = in_parts(change.map(StoredReader::from), given);
+    ReaderAnswer { refusal, reader }
 }
 
 #[unsafe(no_mangle)]
@@ -62,23 +57,24 @@ pub extern "C" fn ferghulta_read_next(
     ensures value { result ≡ next_answer reader (taking (reader_of reader) bytes.now (length codes.old)) }
     ensures codes_after { codes.new ≡ slice_after (reader_of reader) bytes.now codes.old }
 {
-    let r = reader_of(reader);
-    match r.turn(bytes, codes.len()) {
-        Change::To(after) => {
-            let block = ferghulta_read_block(bytes, codes);
-            let next = if block.refusal == 0 {
-                stored_reader(after)
-            } else {
-                reader
+    let given = Reader::from(reader);
+    let after = match given.turn(bytes, codes.len()) {
+        Ok(after) => after,
+        Err(r) => {
+            return NextAnswer {
+                reader,
+                block: Err(r).into(),
             };
-            NextAnswer {
-                reader: next,
-                block,
-            }
         }
-        Change::Refused(n) => NextAnswer {
-            reader,
-            block: not_read(n),
-        },
+    };
+    let block = ferghulta_read_block(bytes, codes);
+    let next = if block.refusal == 0 {
+        after.into()
+    } else {
+        reader
+    };
+    NextAnswer {
+        reader: next,
+        block,
     }
 }

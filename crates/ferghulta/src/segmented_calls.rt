@@ -1,10 +1,10 @@
 // The calls that move rows between progressive and segmented-frame order. They answer the refusal's number, or 0.
 ghost use Rattle.std.specs.Prelude.{◌≡◌, length};
 ghost use Rattle.segmented.specs.declared.Order.TheVariants.{Segmented, Progressive};
-ghost use Rattle.segmented.specs.Segmented.{move_outcome, buffer_after, moved_outcome};
+ghost use Rattle.segmented.specs.Segmented.{move_outcome, buffer_after};
 ghost use Rattle.ferghulta.specs.Answers.{refusal_answer};
 
-use segmented::Moved;
+use crate::refusals::refusal_of;
 
 #[unsafe(no_mangle)]
 pub extern "C" fn ferghulta_to_segmented(progressive: &[u8], segmented: &mut [u8]) -> u32
@@ -20,13 +20,4 @@ pub extern "C" fn ferghulta_to_progressive(segmented: &[u8], progressive: &mut [
     ensures progressive_after { progressive.new ≡ buffer_after Progressive segmented.now progressive.old }
 {
     refusal_of(segmented::to_progressive(segmented, progressive))
-}
-
-fn refusal_of(moved: Moved) -> u32
-    ensures { result ≡ refusal_answer (moved_outcome moved) }
-{
-    match moved {
-        Moved::Done => 0,
-        Moved::Refused(r) => r.number(),
-    }
 }

@@ -1,11 +1,11 @@
 // A picture as a caller in C stores it, in twelve bytes.
 ghost use Rattle.std.specs.Prelude.{◌≡◌};
-ghost use Rattle.ferghulta.specs.Stored.{stored, stored_at, unopened, stored_open, open_phase, phase_of, picture_of};
+ghost use Rattle.ferghulta.specs.Stored.{stored, unopened, open_phase, phase_of, picture_of};
 
 use picture::{Opened, Phase, Picture};
-use systems::{Named, System};
+use systems::System;
 
-// phase: 0 fresh, 1 open, 2 closed. The rest is 0 unless it is open, but for the bytes of a closed picture.
+// phase, a number as the C interface has it: 0 fresh, 1 open, 2 closed. The rest is 0 unless it is open, but for the bytes of a closed picture.
 #[repr(C)]
 #[derive(Clone, Copy)]
 pub struct StoredPicture {
@@ -17,77 +17,70 @@ pub struct StoredPicture {
     pub bytes: u32,
 }
 
-pub fn stored(picture: Picture) -> StoredPicture
-    ensures { result ≡ stored picture }
-{
-    stored_at(picture.phase(), picture.bytes())
-}
+impl From<Picture> for StoredPicture {
+    ghost from_gives = { λ picture kept. kept ≡ stored picture };
 
-fn stored_at(phase: Phase, bytes: u32) -> StoredPicture
-    ensures { result ≡ stored_at phase bytes }
-{
-    match phase {
-        Phase::Fresh => unopened(0, bytes),
-        Phase::Open(o) => stored_open(o, bytes),
-        Phase::Closed => unopened(2, bytes),
-    }
-}
-
-fn unopened(phase: u8, bytes: u32) -> StoredPicture
-    ensures { result ≡ unopened phase bytes }
-{
-    StoredPicture {
-        phase,
-        system: 0,
-        width: 0,
-        height: 0,
-        rows: 0,
-        bytes,
-    }
-}
-
-fn stored_open(o: Opened, bytes: u32) -> StoredPicture
-    ensures { result ≡ stored_open o bytes }
-{
-    let system = o.system;
-    StoredPicture {
-        phase: 1,
-        system: system.number() as u8,
-        width: o.width,
-        height: o.height,
-        rows: o.rows,
-        bytes,
+    fn from(picture: Picture) -> StoredPicture {
+        let bytes = picture.bytes();
+        match picture.phase() {
+            Phase::Fresh => StoredPicture::unopened(0, bytes),
+            Phase::Open(o) => StoredPicture {
+                phase: 1,
+                system: o.system.number() as u8,
+                width: o.width,
+                height: o.height,
+                rows: o.rows,
+                bytes,
+            },
+            Phase::Closed => StoredPicture::unopened(2, bytes),
+        }
     }
 }
 
 // A picture that no call made is taken as fresh.
-pub fn picture_of(k: StoredPicture) -> Picture
-    ensures { result ≡ picture_of k }
-{
-    Picture::resume(phase_of(k), k.bytes)
-}
+impl From<StoredPicture> for Picture {
+    ghost from_gives = { λ kept picture. picture ≡ picture_of kept };
 
-fn phase_of(k: StoredPicture) -> Phase
-    ensures { result ≡ phase_of k }
-{
-    let phase = k.phase;
-    match phase {
-        1 => open_phase(k),
-        2 => Phase::Closed,
-        _ => Phase::Fresh,
+    fn from(kept: StoredPicture) -> Picture {
+        Picture::resume(kept.phase(), kept.bytes)
     }
 }
 
-fn open_phase(k: StoredPicture) -> Phase
-    ensures { result ≡ open_phase k }
-{
-    match System::from_number(k.system as u32) {
-        Named::Known(system) => Phase::Open(Opened {
-            system,
-            width: k.width,
-            height: k.height,
-            rows: k.rows,
-        }),
-        Named::Unknown => Phase::Fresh,
+impl StoredPicture {
+    fn unopened(phase: u8, bytes: u32) -> StoredPicture
+        ensures { result ≡ unopened phase bytes }
+    {
+        StoredPicture {
+            phase,
+            system: 0,
+            width: 0,
+            height: 0,
+            rows: 0,
+            bytes,
+        }
+    }
+
+    fn phase(self) -> Phase
+        ensures { result ≡ phase_of self }
+    {
+        match self.phase {
+            1 => self.open_phase(),
+            2 => Phase::Closed,
+            _ => Phase::Fresh,
+        }
+    }
+
+    fn open_phase(self) -> Phase
+        ensures { result ≡ open_phase self }
+    {
+        match System::try_from(u32::from(self.system)) {
+            Ok(system) => Phase::Open(Opened {
+                system,
+                width: self.width,
+                height: self.height,
+                rows: self.rows,
+            }),
+            Err(_) => Phase::Fresh,
+        }
     }
 }

@@ -1,11 +1,12 @@
 // A picture reader as a caller in C stores it, in eight bytes.
 ghost use Rattle.std.specs.Prelude.{◌≡◌};
-ghost use Rattle.ferghulta.specs.StoredReader.{stored_reader, stored_phase, stored_idle, stored_progress, reading_of, reader_phase, reader_of};
+ghost use Rattle.ferghulta.specs.StoredReader.{stored_reader, stored_idle, stored_progress, reading_of, reader_phase, reader_of};
 
 use reader::{Format, Phase, Progress, Reader};
-use systems::{Named, System};
+use systems::System;
 
-// phase: 0 not opened, 1 reading, 2 complete. The rest is 0 unless it is reading, and system and width are 0 before the first row.
+// phase, a number as the C interface has it: 0 not opened, 1 reading, 2 complete. The rest is 0 unless it is reading, and system and
+// width are 0 before the first row.
 #[repr(C)]
 #[derive(Clone, Copy)]
 pub struct StoredReader {
@@ -16,90 +17,84 @@ pub struct StoredReader {
     pub next: u16,
 }
 
-pub fn stored_reader(reader: Reader) -> StoredReader
-    ensures { result ≡ stored_reader reader }
-{
-    stored_phase(reader.phase())
-}
+impl From<Reader> for StoredReader {
+    ghost from_gives = { λ reader kept. kept ≡ stored_reader reader };
 
-fn stored_phase(phase: Phase) -> StoredReader
-    ensures { result ≡ stored_phase phase }
-{
-    match phase {
-        Phase::Unopened => idle(0),
-        Phase::Reading(p) => stored_progress(p),
-        Phase::Complete => idle(2),
-    }
-}
-
-fn idle(phase: u8) -> StoredReader
-    ensures { result ≡ stored_idle phase }
-{
-    StoredReader {
-        phase,
-        system: 0,
-        width: 0,
-        height: 0,
-        next: 0,
-    }
-}
-
-fn stored_progress(p: Progress) -> StoredReader
-    ensures { result ≡ stored_progress p }
-{
-    let format = p.format;
-    match format {
-        Format::Unknown => StoredReader {
-            phase: 1,
-            system: 0,
-            width: 0,
-            height: p.height,
-            next: p.next,
-        },
-        Format::Of(system, width) => StoredReader {
-            phase: 1,
-            system: system.number() as u8,
-            width,
-            height: p.height,
-            next: p.next,
-        },
+    fn from(reader: Reader) -> StoredReader {
+        match reader.phase() {
+            Phase::Unopened => StoredReader::idle(0),
+            Phase::Reading(p) => StoredReader::reading(p),
+            Phase::Complete => StoredReader::idle(2),
+        }
     }
 }
 
 // A reader that no call made is taken as not opened.
-pub fn reader_of(k: StoredReader) -> Reader
-    ensures { result ≡ reader_of k }
-{
-    Reader::resume(phase_of(k))
-}
+impl From<StoredReader> for Reader {
+    ghost from_gives = { λ kept reader. reader ≡ reader_of kept };
 
-fn phase_of(k: StoredReader) -> Phase
-    ensures { result ≡ reader_phase k }
-{
-    let phase = k.phase;
-    match phase {
-        1 => reading_of(k),
-        2 => Phase::Complete,
-        _ => Phase::Unopened,
+    fn from(kept: StoredReader) -> Reader {
+        Reader::resume(kept.phase())
     }
 }
 
-fn reading_of(k: StoredReader) -> Phase
-    ensures { result ≡ reading_of k }
-{
-    if (k.system == 0) & (k.width == 0) {
-        return Phase::Reading(Progress {
-            height: k.height,
-            next: k.next,
-            format: Format::Unknown,
-        });
+impl StoredReader {
+    fn idle(phase: u8) -> StoredReader
+        ensures { result ≡ stored_idle phase }
+    {
+        StoredReader {
+            phase,
+            system: 0,
+            width: 0,
+            height: 0,
+            next: 0,
+        }
     }
-    match System::from_number(k.system as u32) {
-        Named::Known(system) => Phase::Reading(Progress {
-            height: k.height,
-            next: k.next,
-            format: Format::Of(system, k.width),
-        }),
-        Named::Unknown => Phase::Unopened,
+
+    fn reading(p: Progress) -> StoredReader
+        ensures { result ≡ stored_progress p }
+    {
+        let (system, width) = match p.format {
+            Some(f) => (f.system.number() as u8, f.width),
+            None => (0, 0),
+        };
+        StoredReader {
+            phase: 1,
+            system,
+            width,
+            height: p.height,
+            next: p.next,
+        }
+    }
+
+    fn phase(self) -> Phase
+        ensures { result ≡ reader_phase self }
+    {
+        match self.phase {
+            1 => self.reading_phase(),
+            2 => Phase::Complete,
+            _ => Phase::Unopened,
+        }
+    }
+
+    fn reading_phase(self) -> Phase
+        ensures { result ≡ reading_of self }
+    {
+        let format = if self.system == 0 && self.width == 0 {
+            None
+        } else {
+            match System::try_from(u32::from(self.system)) {
+                Ok(system) => Some(Format {
+                    system,
+                    width: self.width,
+                }),
+                Err(_) => return Phase::Unopened,
+            }
+        };
+        Phase::Reading(Progress {
+            height: self.height,
+            next: self.next,
+            format,
+        })
     }
 }

@@ -3,14 +3,11 @@
 use Rattle.std.specs.Prelude.{ℕ, ◌*◌, pos, nat_abs, ◌-ℤ◌, ◌*ℤ◌}
 use Rattle.std.specs.Int.Signed.{shr_z}
 use Rattle.exact.specs.Signed.{Ratio}
-use Rattle.exact.specs.Outcome.{Outcome, accepted, refused, ◌and_then◌, require}
+use Rattle.exact.specs.Outcome.{Outcome, accepted, ◌and_then◌, require}
 use Rattle.systems.specs.declared.System.{System}
 use Rattle.systems.specs.Systems.{scale, video_data, within, named}
-use Rattle.systems.specs.Refusals.{refusal}
 use Rattle.levels.specs.declared.Gauge.{Gauge}
 use Rattle.levels.specs.declared.Level.{Level}
-use Rattle.levels.specs.declared.CodeLevel.{CodeLevel}
-use Rattle.levels.specs.declared.CodeLevel.TheVariants as code-level
 
 -- A gauge has the code of 0 mV and the codes to 700 mV, at 8 bits: of R', G', B' and Y', and of Cb and Cr
 abbrev pub code_gauge : Gauge
@@ -39,8 +36,3 @@ level_of_code = level_by code_gauge
 
 abbrev pub level_of_difference : ℕ → ℕ → Outcome Level
 level_of_difference = level_by difference_gauge
-
--- what the answers say
-abbrev pub level_outcome : CodeLevel → Outcome Level
-level_outcome (code-level.Level l) = accepted l
-level_outcome (code-level.Refused r) = refused (refusal r)

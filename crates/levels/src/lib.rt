@@ -2,24 +2,18 @@
 #![tactic(auto)]
 
 ghost use Rattle.std.specs.Prelude.{◌≡◌, ◌^◌, ◌<◌, pos, nat_abs, ◌<ℤ◌};
-ghost use Rattle.std.specs.Int.Signed.{shr_z};
 ghost use Rattle.systems.specs.Systems.{scale};
-ghost use Rattle.levels.specs.Levels.{level_ratio, divided, level_by, level_of_code, level_of_difference, level_outcome};
+ghost use Rattle.systems.specs.Refusals.{outcome};
+ghost use Rattle.levels.specs.Levels.{level_ratio, divided, level_by, level_of_code, level_of_difference};
 
-use systems::{Named, Range, Refusal, System};
+use systems::{Range, Refusal, System};
 
 // Whole millivolts, rounded down, and the remainder over 219s or 224s.
 #[repr(C)]
-#[derive(Clone, Copy)]
+#[derive(Clone, Copy, PartialEq, Eq)]
 pub struct Level {
     pub millivolts: i32,
     pub remainder: u32,
-}
-
-#[derive(Clone, Copy)]
-pub enum CodeLevel {
-    Level(Level),
-    Refused(Refusal),
 }
 
 // What levels are read by: the code of 0 mV, and the codes to 700 mV, at 8 bits.
@@ -46,34 +40,29 @@ impl Gauge {
 }
 
 // The level of an R', G', B' or Y' code; refused with 1, then 6.
-pub fn level_of_code(system: u32, code: u16) -> CodeLevel
-    ensures { level_outcome result ≡ level_of_code system code }
+pub fn level_of_code(system: u32, code: u16) -> Result<Level, Refusal>
+    ensures { outcome result ≡ level_of_code system code }
 {
     level_by(Gauge::CODE, system, code)
 }
 
 // The level of a Cb or Cr word; refused with 1, then 6.
-pub fn level_of_difference(system: u32, word: u16) -> CodeLevel
-    ensures { level_outcome result ≡ level_of_difference system word }
+pub fn level_of_difference(system: u32, word: u16) -> Result<Level, Refusal>
+    ensures { outcome result ≡ level_of_difference system word }
 {
     level_by(Gauge::DIFFERENCE, system, word)
 }
 
 // The level of a code by a gauge; refused with 1, then 6.
-fn level_by(gauge: Gauge, system: u32, code: u16) -> CodeLevel
+fn level_by(gauge: Gauge, system: u32, code: u16) -> Result<Level, Refusal>
     requires { 0 < gauge.steps }
-    ensures { level_outcome result ≡ level_by gauge system code }
+    ensures { outcome result ≡ level_by gauge system code }
 {
-    match System::from_number(system) {
-        Named::Known(y) => {
-            if y.video_data().holds(code) {
-                CodeLevel::Level(level_in(y, gauge, code))
-            } else {
-                CodeLevel::Refused(Refusal::Code)
-            }
-        }
-        Named::Unknown => CodeLevel::Refused(Refusal::System),
+    let y = System::try_from(system)?;
+    if !y.video_data().holds(code) {
+        return Err(Refusal::Code);
     }
+    Ok(level_in(y, gauge, code))
 }
 
 // The level of a code by a gauge at the scale of a system.
@@ -92,21 +81,9 @@ fn divided(top: i64, bottom: i64) -> Level
     requires { (nat_abs top < 2 ^ 31) × (pos 0 <ℤ bottom) × (nat_abs bottom < 2 ^ 31) }
     ensures { result ≡ divided record { top = top; bottom = nat_abs bottom } }
 {
-    let whole = floor(top, bottom);
+    let whole = exact::floor(top, bottom);
     Level {
         millivolts: whole as i32,
         remainder: (top - whole * bottom) as u32,
     }
-}
-
-// A ratio rounded down. Division goes toward zero, which is one above where it leaves something below 0.
-fn floor(top: i64, bottom: i64) -> i64
-    requires { (nat_abs top < 2 ^ 31) × (pos 0 <ℤ bottom) × (nat_abs bottom < 2 ^ 31) }
-    ensures { result ≡ shr_z top (nat_abs bottom) }
-{
-    let quotient = top / bottom;
-    if top % bottom < 0 {
-        return quotient - 1;
-    }
-    quotient
 }

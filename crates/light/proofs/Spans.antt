@@ -1,14 +1,15 @@
 -- The span of a nominal code: a light is in it exactly when its code is that code; and it is what the boundaries say.
 -- Assumes nothing.
-use mathlib.Core.Path.{◌≡◌, refl, sym, ap, subst, ◌∙◌}
+use mathlib.Core.Path.{◌≡◌, sym, ap, subst, ◌∙◌}
 use mathlib.Core.Bool.{Bool}
 use mathlib.Core.Logic.{◌⊎◌, inl, inr, ◌↔◌}
-use mathlib.Core.List.{List, [], ◌∷◌}
+use mathlib.Core.List.{List, ◌∷◌}
 use Prim.Native.Nat.{ℕ, zero, suc, ◌+◌, ◌*◌, ◌-◌, ◌≤◌, ◌<◌}
-use native.Mathlib.Nat.{le_refl, not-suc-le-zero, le_of_suc-le-suc}
+use native.Mathlib.Nat.{le_refl}
 use native.Mathlib.Omega.{arith}
 use lib.Dec.{T, eqb, eqb→eq, eqb_refl}
 use lib.ListN.{length, get_or, get_or-eq_default}
+use Rattle.std.proofs.lemmas.List.{get_or_default}
 use Rattle.exact.proofs.Order.{below_or_not}
 use Rattle.exact.proofs.Search.{greatest_within, greatest_passes, greatest_above, least_passes, least_below}
 use Rattle.systems.specs.declared.System.{System}
@@ -82,18 +83,6 @@ span_by_ends y d lo hi before first last after small = (
     to (inl h) = absurd (omega (arith, greatest_has y d lit, codes_rise y (suc hi) (greatest_light y d) h))
     to (inr h) = h
 
-pub inside : (xs : List ℕ) (i d e : ℕ) → i < length xs → get_or xs i d ≡ get_or xs i e
-inside [] i d e h = absurd (not-suc-le-zero h)
-inside (x ∷ xs) zero d e h = refl
-inside (x ∷ xs) (suc i) d e h = inside xs i d e (le_of_suc-le-suc h)
-
-pub entry_before : (t : List ℕ) (n : ℕ) → 0 < n → get_or t (n - 1) 0 ≡ get_or (0 ∷ t) n 0
-entry_before t zero h = absurd (not-suc-le-zero h)
-entry_before t (suc n) h = ap (λ (q : ℕ). get_or t q 0) same
-  where
-    same : suc n - 1 ≡ n
-    same = omega arith
-
 -- the span of the code 16s + n by a table of boundaries
 module _ (y : System) (t : List ℕ) (b : Boundaries (quantiser_of y) t) where
   pub boundary_above_zero : (n : ℕ) → 1 ≤ get_or t n 65536
@@ -103,11 +92,18 @@ module _ (y : System) (t : List ℕ) (b : Boundaries (quantiser_of y) t) where
       go (inl h) = apart (below_or_not 0 (get_or t n 0))
         where
           apart : (0 < get_or t n 0) ⊎ (get_or t n 0 ≤ 0) → 1 ≤ get_or t n 65536
-          apart (inl p) = omega (arith, inside t n 65536 0 h)
+          apart (inl p) = omega (arith, get_or_default t n 65536 0 h)
           apart (inr p) = absurd (omega (arith, b.from n 0 h p, first_light y))
       go (inr h) = omega (arith, get_or-eq_default t 65536 h)
 
-  module _ (n : ℕ) (room : n ≤ 219 * scale y) (small : (i : ℕ) → get_or t i 0 < 65536) where
+  boundary_lit : (n : ℕ) → n < length t → get_or t n 0 ≤ full_light
+  boundary_lit n i = go (below_or_not full_light (get_or t n 0)) (every_code_lit y (suc n) (omega (arith, b.size)))
+    where
+      go : (full_light < get_or t n 0) ⊎ (get_or t n 0 ≤ full_light) → Lit y (16 * scale y + suc n) → get_or t n 0 ≤ full_light
+      go (inl p) l = absurd (omega (arith, l.has, b.before n l.light i (omega (arith, l.small))))
+      go (inr p) l = p
+
+  module _ (n : ℕ) (room : n ≤ 219 * scale y) where
     lit : Lit y (16 * scale y + n)
     lit = every_code_lit y n room
 
@@ -120,10 +116,9 @@ module _ (y : System) (t : List ℕ) (b : Boundaries (quantiser_of y) t) where
             let d = 16 * scale y + suc m in
             let i : m < length t = omega (arith, b.size) in
             let first : get_or t m 0 ≤ least_light y d = reach (below_or_not (least_light y d) (get_or t m 0)) l i in
-            let top : least_light y d ≤ l.light = least_first y d l l.light l.small l.has in
             let low : d ≤ code y (get_or t m 0) = b.from m (get_or t m 0) i (le_refl _) in
             let high : code y (get_or t m 0) ≤ code y (least_light y d) = codes_rise y (get_or t m 0) (least_light y d) first in
-            omega (arith, least_first y d l (get_or t m 0) (omega (arith, small m)) (omega (arith, least_has y d l)))
+            omega (arith, least_first y d l (get_or t m 0) (boundary_lit m i) (omega (arith, least_has y d l)))
           where
             reach : (least_light y (16 * scale y + suc m) < get_or t m 0) ⊎ (get_or t m 0 ≤ least_light y (16 * scale y + suc m)) → Lit y (16 * scale y + suc m) → m < length t
                 → get_or t m 0 ≤ least_light y (16 * scale y + suc m)
@@ -144,7 +139,7 @@ module _ (y : System) (t : List ℕ) (b : Boundaries (quantiser_of y) t) where
             let below : g < get_or t n 0 = under (below_or_not g (get_or t n 0)) h in
             let last : code y (get_or t n 0 - 1) < 16 * scale y + suc n = b.before n (get_or t n 0 - 1) h (omega arith) in
             let same : code y (get_or t n 0 - 1) ≡ d = omega (arith, greatest_has y d lit, codes_rise y g (get_or t n 0 - 1) (omega arith)) in
-            omega (arith, inside t n 65536 0 h, greatest_last y d lit (get_or t n 0 - 1) (omega (arith, small n)) same)
+            omega (arith, get_or_default t n 65536 0 h, greatest_last y d lit (get_or t n 0 - 1) (omega (arith, boundary_lit n h)) same)
           where
             under : (g < get_or t n 0) ⊎ (get_or t n 0 ≤ g) → n < length t → g < get_or t n 0
             under (inl p) i = p

@@ -1,16 +1,11 @@
 -- The calls on lights (document 01, 'Light to code'): the code of a light, and the span of a code.
 -- Definitions only.
 use Rattle.std.specs.Prelude.{ℕ}
-use Rattle.exact.specs.Outcome.{Outcome, accepted, refused, ◌and_then◌, require}
+use Rattle.exact.specs.Outcome.{Outcome, accepted, ◌and_then◌, require}
 use Rattle.systems.specs.declared.System.{System}
 use Rattle.systems.specs.Systems.{named, nominal, within}
-use Rattle.systems.specs.Refusals.{refusal}
 use Rattle.curve.specs.Curve.{code, least_light, greatest_light}
 use Rattle.light.specs.declared.Span.{Span}
-use Rattle.light.specs.declared.LightCode.{LightCode}
-use Rattle.light.specs.declared.LightCode.TheVariants as light-code
-use Rattle.light.specs.declared.CodeSpan.{CodeSpan}
-use Rattle.light.specs.declared.CodeSpan.TheVariants as code-span
 
 -- the code of light k in system n
 abbrev pub code_of_light : ℕ → ℕ → Outcome ℕ
@@ -23,12 +18,3 @@ span y d = record { least = least_light y d; greatest = greatest_light y d }
 -- the span of code d in system n, which must be nominal
 abbrev pub span_of_code : ℕ → ℕ → Outcome Span
 span_of_code n d = named n and_then λ y. require (within (nominal y) d) 6 (accepted (span y d))
-
--- what the answers say
-abbrev pub code_outcome : LightCode → Outcome ℕ
-code_outcome (light-code.Code d) = accepted d
-code_outcome (light-code.Refused r) = refused (refusal r)
-
-abbrev pub span_outcome : CodeSpan → Outcome Span
-span_outcome (code-span.Lights s) = accepted s
-span_outcome (code-span.Refused r) = refused (refusal r)

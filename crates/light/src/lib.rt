@@ -2,80 +2,52 @@
 #![tactic(auto)]
 
 ghost use Rattle.std.specs.Prelude.{◌≡◌, ◌∷◌, ◌+◌, ◌*◌, ◌≤◌, length, get_or};
-ghost use Rattle.systems.specs.Systems.{scale};
+ghost use Rattle.systems.specs.Systems.{bits, scale};
+ghost use Rattle.systems.specs.Refusals.{outcome};
 ghost use Rattle.curve.specs.Curve.{code};
-ghost use Rattle.curve.specs.Inner.{quantiser_of, Boundaries};
-ghost use Rattle.light.specs.Light.{code_of_light, span, span_of_code, code_outcome, span_outcome};
+ghost use Rattle.light.specs.Light.{code_of_light, span, span_of_code};
 
-use curve::code_in;
-use systems::{Depth, Named, Refusal, System};
-
-#[derive(Clone, Copy)]
-pub enum LightCode {
-    Code(u16),
-    Refused(Refusal),
-}
+use curve::{Thresholds, code_in};
+use systems::{Depth, Refusal, System};
+use thresholds_8::Bits8;
+use thresholds_10::Bits10;
+use thresholds_12::Bits12;
 
 // The lights from least to greatest, both included.
 #[repr(C)]
-#[derive(Clone, Copy)]
+#[derive(Clone, Copy, PartialEq, Eq)]
 pub struct Span {
     pub least: u16,
     pub greatest: u16,
 }
 
-#[derive(Clone, Copy)]
-pub enum CodeSpan {
-    Lights(Span),
-    Refused(Refusal),
-}
-
 // The code of a light. Refused: 1.
-pub fn code_of_light(system: u32, light: u16) -> LightCode
-    ensures { code_outcome result ≡ code_of_light system light }
+#[tactic(auto, using(systems::proofs::Scales::scale_range, curve::proofs::Lights::code_high))]
+pub fn code_of_light(system: u32, light: u16) -> Result<u16, Refusal>
+    ensures { outcome result ≡ code_of_light system light }
 {
-    match System::from_number(system) {
-        Named::Known(y) => LightCode::Code(code_of(y, light) as u16),
-        Named::Unknown => LightCode::Refused(Refusal::System),
-    }
+    Ok(code_of(System::try_from(system)?, light) as u16)
 }
 
 // The lights that have a code. Refused: 1, then 6.
-pub fn span_of_code(system: u32, code: u16) -> CodeSpan
-    ensures { span_outcome result ≡ span_of_code system code }
+pub fn span_of_code(system: u32, code: u16) -> Result<Span, Refusal>
+    ensures { outcome result ≡ span_of_code system code }
 {
-    match System::from_number(system) {
-        Named::Known(y) => {
-            if y.nominal().holds(code) {
-                CodeSpan::Lights(span_of(y, code))
-            } else {
-                CodeSpan::Refused(Refusal::Code)
-            }
-        }
-        Named::Unknown => CodeSpan::Refused(Refusal::System),
+    let y = System::try_from(system)?;
+    if !y.nominal().holds(code) {
+        return Err(Refusal::Code);
     }
+    Ok(span_of(y, code))
 }
 
-// A depth has its table, and nothing else of its own.
+// A depth has its boundaries, and nothing else of its own.
 fn code_of(y: System, light: u16) -> usize
     ensures { result ≡ code y light }
 {
     match y.depth() {
-        Depth::Bits8 => {
-            let boundaries = thresholds_8::boundaries();
-            let index = thresholds_8::index();
-            code_in(y, &boundaries, &index, thresholds_8::SHIFT, light)
-        }
-        Depth::Bits10 => {
-            let boundaries = thresholds_10::boundaries();
-            let index = thresholds_10::index();
-            code_in(y, &boundaries, &index, thresholds_10::SHIFT, light)
-        }
-        Depth::Bits12 => {
-            let boundaries = thresholds_12::boundaries();
-            let index = thresholds_12::index();
-            code_in(y, &boundaries, &index, thresholds_12::SHIFT, light)
-        }
+        Depth::Bits8 => code_in::<Bits8>(y, light),
+        Depth::Bits10 => code_in::<Bits10>(y, light),
+        Depth::Bits12 => code_in::<Bits12>(y, light),
     }
 }
 
@@ -84,19 +56,19 @@ fn span_of(y: System, d: u16) -> Span
     ensures { result ≡ span y d }
 {
     match y.depth() {
-        Depth::Bits8 => span_in(y, &thresholds_8::boundaries(), d),
-        Depth::Bits10 => span_in(y, &thresholds_10::boundaries(), d),
-        Depth::Bits12 => span_in(y, &thresholds_12::boundaries(), d),
+        Depth::Bits8 => span_in::<Bits8>(y, d),
+        Depth::Bits10 => span_in::<Bits10>(y, d),
+        Depth::Bits12 => span_in::<Bits12>(y, d),
     }
 }
 
 // A span runs from the code's own boundary to the light before the next one.
-fn span_in(y: System, boundaries: &[u16], d: u16) -> Span
-    requires { Boundaries (quantiser_of y) boundaries.now × (16 * scale y ≤ d) × (d ≤ 235 * scale y) }
+fn span_in<T: Thresholds>(y: System, d: u16) -> Span
+    requires { (bits y ≡ T.bits) × (16 * scale y ≤ d) × (d ≤ 235 * scale y) }
     ensures { result ≡ span y d }
 {
-    let nominal = y.nominal();
-    let n = (d - nominal.low) as usize;
+    let boundaries = T::boundaries();
+    let n = (d - y.nominal().low) as usize;
     Span {
         least: least_at(boundaries, n),
         greatest: greatest_at(boundaries, n),
@@ -119,8 +91,8 @@ fn greatest_at(boundaries: &[u16], n: usize) -> u16
     requires { 1 ≤ get_or boundaries.now n 65536 }
     ensures { result + 1 ≡ get_or boundaries.now n 65536 }
 {
-    if n < boundaries.len() {
-        return boundaries[n] - 1;
+    match boundaries.get(n) {
+        Some(next) => next - 1,
+        None => u16::MAX,
     }
-    65535
 }

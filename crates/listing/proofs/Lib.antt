@@ -1,4 +1,4 @@
 pub mod Digits
-pub mod Example
 pub mod Listed
-pub mod Pieces
+pub mod Written
+pub mod Example

@@ -1,28 +1,43 @@
 // Luminance to code by a table of boundary luminances (request 2026-11): a weighted sum of lights, in ten-thousandths of one.
 #![tactic(auto)]
 
-ghost use Rattle.std.specs.Prelude.{◌≡◌, ◌≤◌, leb};
+ghost use Rattle.std.specs.Prelude.{◌≡◌, ◌≤◌, ◌<◌, ℕ, leb};
 ghost use mir.Val.{bool_byte};
-ghost use Rattle.luminance.specs.Luminance.{luminance_code};
-ghost use Rattle.luminance.specs.Inner.{ReadyFor};
+ghost use Rattle.systems.specs.declared.System.{System};
+ghost use Rattle.curve.specs.Inner.{Boundaries, Index};
+ghost use Rattle.luminance.specs.Luminance.{full_luminance, luminance_code};
+ghost use Rattle.luminance.specs.Inner.{quantiser_of};
 
 use systems::System;
 
-// The code of a luminance. The index leads by the bucket that it is in to the first of two boundaries that can lie below it.
-pub fn code_in<'a>(
-    y: System,
-    boundaries: &'a [u32],
-    index: &'a [u16],
-    bucket: u32,
-    luminance: u32,
-) -> u16
-    requires { ReadyFor y bucket luminance boundaries.now index.now }
+// A system's boundary luminances: entry j of `boundaries` is the least luminance whose code is at least 16s + j + 1. For each run of
+// BUCKET luminances, `index` leads to the first of two boundaries that can lie in it.
+pub trait Thresholds {
+    ghost system: { System };
+
+    ghost BUCKET: { ℕ };
+
+    const BUCKET: u32;
+
+    fn boundaries() -> &'static [u32]
+        ensures { Boundaries (quantiser_of system) result.now };
+
+    fn index() -> &'static [u16]
+        ensures some { 0 < BUCKET }
+        ensures index { Index (quantiser_of system) BUCKET result.now };
+}
+
+// The code of a luminance by its system's boundaries. A body beside `curve::code_in`: one for both would need a trait for an entry's
+// width, and a map over the table in each table's contract.
+pub fn code_in<T: Thresholds>(y: System, luminance: u32) -> u16
+    requires { (y ≡ T.system) × (luminance ≤ full_luminance) }
     ensures { result ≡ luminance_code y luminance }
 {
-    let n = index[(luminance / bucket) as usize];
+    let boundaries = T::boundaries();
+    let n = T::index()[(luminance / T::BUCKET) as usize];
     let at = n as usize;
-    let nominal = y.nominal();
-    nominal.low + n + passed(boundaries[at], luminance) + passed(boundaries[at + 1], luminance)
+    let black = y.nominal().low;
+    black + n + passed(boundaries[at], luminance) + passed(boundaries[at + 1], luminance)
 }
 
 // 1 where the luminance is at the boundary or beyond it, else 0.

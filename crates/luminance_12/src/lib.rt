@@ -1,24 +1,28 @@
 // The boundary luminances at 12 bits: entry j is the least luminance whose code is at least 16s + j + 1 (request 2026-11). The
-// curve's rule is proved of every entry here, once; a caller makes the table once and lends it to each lookup.
+// curve's rule is proved of every entry here, once.
 #![tactic(auto)]
 
 mod table;
 
 ghost use Rattle.systems.specs.declared.System.TheVariants.{Bt2020Bits12};
-ghost use Rattle.curve.specs.Inner.{Boundaries, Index};
-ghost use Rattle.luminance.specs.Inner.{quantiser_of};
 
-// The luminances that share an entry of the index: 10000 times as many as lights do, so that the entries are the same.
-pub const BUCKET: u32 = 10000 << thresholds_12::SHIFT;
+use luminance::Thresholds;
 
-pub fn boundaries() -> [u32; 3504]
-    ensures { Boundaries (quantiser_of Bt2020Bits12) result }
-{
-    table::BOUNDARIES
-}
+pub struct Bits12;
 
-pub fn index() -> [u16; 8192]
-    ensures { Index (quantiser_of Bt2020Bits12) 80000 result }
-{
-    thresholds_12::INDEX
+impl Thresholds for Bits12 {
+    ghost system = { Bt2020Bits12 };
+
+    ghost BUCKET = { 80000 };
+
+    // 10000 times as many luminances as lights share an entry of the index, so that the entries are the same.
+    const BUCKET: u32 = 10000 << <thresholds_12::Bits12 as curve::Thresholds>::SHIFT;
+
+    fn boundaries() -> &'static [u32] {
+        &table::BOUNDARIES
+    }
+
+    fn index() -> &'static [u16] {
+        &thresholds_12::INDEX
+    }
 }

@@ -7,8 +7,8 @@ use Prim.Native.Nat.{ℕ, ◌+◌, ◌-◌, ◌≤◌, ◌<◌}
 use native.Mathlib.Nat.{le_refl, add-zero, zero-add, add_assoc}
 use native.Mathlib.Omega.{arith}
 use lib.Dec.{T, ltb}
-use lib.IntN.{ℤ, pos, negsuc, nat_abs, sub_ℕ}
-use lib.Signed.{lt_z, non_neg}
+use lib.IntN.{ℤ, pos, negsuc, sub_ℕ}
+use lib.Signed.{lt_z}
 use mir.Val.{bool_byte}
 use borrow.Author.Tests.{ltb-true, ltb-false, le-ltb}
 use Rattle.exact.specs.Signed.{rounded}
@@ -39,11 +39,6 @@ inside (negsuc n) low high l h = absurd (subst T l tt)
 pub clipped_by : (n : Range) (v : ℤ) (l h : Bool) → lt_z v (pos n.low) ≡ l → lt_z (pos n.high) v ≡ h
     → elim l [ true ↦ n.low | false ↦ elim h [ true ↦ n.high | false ↦ natural v ] ] ≡ clipped n v
 clipped_by n v l h p q = sym (λ i. elim (p i) [ true ↦ n.low | false ↦ elim (q i) [ true ↦ n.high | false ↦ natural v ] ])
-
--- a component that is in the range is its own code
-pub natural_inside : (n : Range) (v : ℤ) → lt_z v (pos n.low) ≡ false → lt_z (pos n.high) v ≡ false → T (non_neg v) × (nat_abs v ≤ n.high) × (nat_abs v ≡ clipped n v)
-natural_inside n (pos a) l h = (tt, ltb-false n.high a h, clipped_by n (pos a) false false l h)
-natural_inside n (negsuc a) l h = absurd (subst T l tt)
 
 pub beyond_by : (n : Range) (v : ℤ) (l h : Bool) → lt_z v (pos n.low) ≡ l → lt_z (pos n.high) v ≡ h → record { low = bool_byte l; high = bool_byte h } ≡ beyond n v
 beyond_by n v l h p q = λ i. record { low = (tested l ∙ ap one_where (sym p)) i; high = (tested h ∙ ap one_where (sym q)) i }

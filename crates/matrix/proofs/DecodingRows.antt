@@ -15,13 +15,9 @@ use Rattle.systems.specs.Systems.{kr, kg, kb}
 use Rattle.exact.specs.Signed.{rounded}
 use Rattle.matrix.specs.declared.Words.{Words}
 use Rattle.matrix.specs.Triples.{primary, signed, red_of, green_of, blue_of}
-use Rattle.matrix.specs.Inner.{TwelveBitWords, Small, dotted, unit, fixed, reach, decoding_rows, from_fixed, unclipped_at}
+use Rattle.matrix.specs.Inner.{TwelveBitWords, Small, dotted, unit, fixed, reach, decoding_rows, decoding_column, from_fixed, unclipped_at}
 use Rattle.matrix.proofs.Fractions.{signed_by, primary_rounds, green_rounds}
 use Rattle.matrix.proofs.FixedPoint.{rounds_as_exact}
-
--- what the rows multiply
-abbrev pub column : ℕ → Words → List ℤ
-column s w = pos w.y ∷ signed s w.cb ∷ signed s w.cr ∷ []
 
 abbrev pub row : Matrix → ℕ → List ℤ
 row x k = get_or (decoding_rows x) k []
@@ -42,7 +38,7 @@ module _ (x : Matrix) (s : ℕ) (w : Words) (S : s ≤ 16) (n : TwelveBitWords w
   difference_small : (v : ℕ) → v < 2 ^ 12 → nat_abs (signed s v) ≤ 2 ^ 12
   difference_small v h = rw (pos_less v m) (sub_size v m (2 ^ 12) (omega arith) (omega arith))
 
-  small : (b r : ℤ) → nat_abs b + nat_abs r ≤ 2 ^ 50 → Small (pos unit ∷ b ∷ r ∷ []) (column s w)
+  small : (b r : ℤ) → nat_abs b + nat_abs r ≤ 2 ^ 50 → Small (pos unit ∷ b ∷ r ∷ []) (decoding_column s w)
   small b r h = record { first = lit≤ tt; others = h; triple_0 = omega (arith, n.y_high); triple_1 = difference_small w.cb n.cb_high; triple_2 = difference_small w.cr n.cr_high }
 
   -- ---- value
@@ -58,25 +54,25 @@ module _ (x : Matrix) (s : ℕ) (w : Words) (S : s ≤ 16) (n : TwelveBitWords w
       is ∙ (λ i. pos_sub p i +ℤ signed_by s v e i) ∙ sub_add p 0 (v * e) (m * e) ∙ sub_eq (p + v * e) (0 + m * e) (p + v * e + 0 * 0) (m * e + 0 * 0) (omega arith) in
       ap from_fixed sum ∙ rounds_as_exact d reach reach (lit< tt) refl (lit< tt) w.y v m a 0 0 0 (omega arith) (omega arith) (omega arith) (omega arith) _ _ _ (primary_rounds w.y v s k) (omega arith) (omega arith)
 
-  red : from_fixed (dotted (row x 0) (column s w)) ≡ rounded (red_of x s w)
+  red : from_fixed (dotted (row x 0) (decoding_column s w)) ≡ rounded (red_of x s w)
   unfolding decoding_rows
   red =
       let c = signed s w.cr in
       let e = fixed (438 * (10000 - kr x)) 2240000 in
       let p = unit * w.y in
-      one w.cr (kr x) n.cr_high (dotted (row x 0) (column s w))
+      one w.cr (kr x) n.cr_high (dotted (row x 0) (decoding_column s w))
       ((λ i. pos p +ℤ zero-*ℤ (signed s w.cb) i +ℤ *ℤ_comm (pos e) c i) ∙ ap (λ (z : ℤ). z +ℤ c *ℤ pos e) (+ℤ_idr (pos p)))
 
-  blue : from_fixed (dotted (row x 2) (column s w)) ≡ rounded (blue_of x s w)
+  blue : from_fixed (dotted (row x 2) (decoding_column s w)) ≡ rounded (blue_of x s w)
   unfolding decoding_rows
   blue =
       let c = signed s w.cb in
       let e = fixed (438 * (10000 - kb x)) 2240000 in
       let p = unit * w.y in
-      one w.cb (kb x) n.cb_high (dotted (row x 2) (column s w))
+      one w.cb (kb x) n.cb_high (dotted (row x 2) (decoding_column s w))
       ((λ i. pos p +ℤ *ℤ_comm (pos e) c i +ℤ zero-*ℤ (signed s w.cr) i) ∙ +ℤ_idr (pos p +ℤ c *ℤ pos e))
 
-  green : from_fixed (dotted (row x 1) (column s w)) ≡ rounded (green_of x s w)
+  green : from_fixed (dotted (row x 1) (decoding_column s w)) ≡ rounded (green_of x s w)
   unfolding decoding_rows
   green =
       let d = 2240000 * kg x in
@@ -87,19 +83,19 @@ module _ (x : Matrix) (s : ℕ) (w : Words) (S : s ≤ 16) (n : TwelveBitWords w
       let er = fixed r d in
       let vb = w.cb in
       let vr = w.cr in
-      let sum : dotted (row x 1) (column s w) ≡ sub_ℕ (p + m * eb + m * er) (vb * eb + vr * er) =
+      let sum : dotted (row x 1) (decoding_column s w) ≡ sub_ℕ (p + m * eb + m * er) (vb * eb + vr * er) =
       (λ i. pos p +ℤ negated eb (signed s vb) i +ℤ negated er (signed s vr) i)
       ∙ (λ i. ((λ j. pos_sub p j -ℤ signed_by s vb eb j) ∙ sub_minus p 0 (vb * eb) (m * eb)) i -ℤ signed_by s vr er i)
       ∙ sub_minus (p + m * eb) (0 + vb * eb) (vr * er) (m * er)
       ∙ sub_eq (p + m * eb + m * er) (0 + vb * eb + vr * er) (p + m * eb + m * er) (vb * eb + vr * er) (omega arith) in
       ap from_fixed sum ∙ rounds_as_exact d reach reach (green_divisor x) (green_facts x).0 (green_facts x).1 w.y m vb b m vr r (omega (arith, n.cb_high)) (omega (arith, n.cb_high)) (omega (arith, n.cr_high)) (omega (arith, n.cr_high)) _ _ _ (green_rounds x s w (green_divisor x)) (omega arith) (omega arith)
 
-  pub rows_give : record { r = from_fixed (dotted (row x 0) (column s w)); g = from_fixed (dotted (row x 1) (column s w)); b = from_fixed (dotted (row x 2) (column s w)) } ≡ unclipped_at x s w
+  pub rows_give : record { r = from_fixed (dotted (row x 0) (decoding_column s w)); g = from_fixed (dotted (row x 1) (decoding_column s w)); b = from_fixed (dotted (row x 2) (decoding_column s w)) } ≡ unclipped_at x s w
   unfolding unclipped_at
   rows_give = λ i. record { r = red i; g = green i; b = blue i }
 
 module _ (s : ℕ) (w : Words) (S : s ≤ 16) (n : TwelveBitWords w) where
-  pub rows_small : (x : Matrix) → Small (row x 0) (column s w) × Small (row x 1) (column s w) × Small (row x 2) (column s w)
+  pub rows_small : (x : Matrix) → Small (row x 0) (decoding_column s w) × Small (row x 1) (decoding_column s w) × Small (row x 2) (decoding_column s w)
   unfolding decoding_rows
   rows_small Bt709 = (small Bt709 s w S n _ _ (lit≤ tt), small Bt709 s w S n _ _ (lit≤ tt), small Bt709 s w S n _ _ (lit≤ tt))
   rows_small Bt2020 = (small Bt2020 s w S n _ _ (lit≤ tt), small Bt2020 s w S n _ _ (lit≤ tt), small Bt2020 s w S n _ _ (lit≤ tt))

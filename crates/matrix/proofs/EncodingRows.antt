@@ -12,10 +12,9 @@ use Rattle.exact.proofs.Difference.{pos_sub, pos_less, sub_add, sub_minus, sub_m
 use Rattle.systems.specs.declared.Codes.{Codes}
 use Rattle.systems.specs.declared.Matrix.{Matrix}
 use Rattle.systems.specs.declared.Matrix.TheVariants.{Bt709, Bt2020}
-use Rattle.systems.specs.declared.Range.{Range}
 use Rattle.systems.specs.Systems.{kr, kg, kb}
 use Rattle.matrix.specs.Triples.{weighted, difference, encoded_at}
-use Rattle.matrix.specs.Inner.{CodesIn, NominalCodes, TwelveBitCodes, WordSized, Small, dotted, encoding_rows, colour_difference}
+use Rattle.matrix.specs.Inner.{NominalCodes, TwelveBitCodes, WordSized, Small, dotted, encoding_rows, colour_difference}
 use Rattle.matrix.proofs.Nominal.{words_of}
 
 -- what the rows multiply
@@ -77,9 +76,6 @@ module _ (c : Codes) (n : TwelveBitCodes c) where
 
   pub above_small : (x : Matrix) (v : ℕ) → v < 2 ^ 12 → nat_abs (above x c v) ≤ 2 ^ 26
   above_small x v h = rw (pos_less (weighted x c) (10000 * v)) (sub_size (weighted x c) (10000 * v) (2 ^ 26) (omega (arith, luma_small x)) (omega arith))
-
-pub twelve_bit_codes : (n : Range) (c : Codes) → n.high < 2 ^ 12 → CodesIn n c → TwelveBitCodes c
-twelve_bit_codes n c h i = record { r_high = omega (arith, i.r_high); g_high = omega (arith, i.g_high); b_high = omega (arith, i.b_high) }
 
 -- the words of nominal codes
 pub word_sized : (x : Matrix) (s : ℕ) (c : Codes) → s ≤ 16 → NominalCodes s c → WordSized (encoded_at x s c)

@@ -7,6 +7,7 @@ use Prim.Native.Nat.{ℕ, ◌+◌, ◌*◌, ◌-◌, ◌≤◌}
 use native.Mathlib.Omega.{arith}
 use lib.IntN.{ℤ, pos, negsuc}
 use lib.Signed.{lt_z}
+use mir.Val.{bool_byte}
 use borrow.Author.Tests.{ltb-true, lt-ltb}
 use Rattle.exact.specs.Signed.{rounded}
 use Rattle.exact.specs.Outcome.{Outcome, accepted, refused}
@@ -31,17 +32,17 @@ use Rattle.matrix.proofs.Tested.{codes_in_lem}
 -- ---- one number, by any two ranges of which the one lies in the other
 
 -- beyond one end of a range
-above_acts : (r : Range) (rs : List Range) (v : ℤ) → r.low ≤ r.high → lt_z (pos r.high) v ≡ true → ruled (r ∷ rs) v ≡ record { word = r.high; moved = 1 }
+above_acts : (r : Range) (rs : List Range) (v : ℤ) → r.low ≤ r.high → lt_z (pos r.high) v ≡ true → ruled (r ∷ rs) v ≡ record { word = r.high; moved = true }
 above_acts r rs v order h = go (lt_z v (pos r.low)) refl
   where
-    go : (l : Bool) → lt_z v (pos r.low) ≡ l → ruled (r ∷ rs) v ≡ record { word = r.high; moved = 1 }
+    go : (l : Bool) → lt_z v (pos r.low) ≡ l → ruled (r ∷ rs) v ≡ record { word = r.high; moved = true }
     go true l = absurd (not_both r v order l h)
-    go false l = rule_acts r rs v (λ i. l i || h i) ∙ (λ i. record { word = sym (clipped_by r v false true l h) i; moved = 1 })
+    go false l = rule_acts r rs v (λ i. l i || h i) ∙ (λ i. record { word = sym (clipped_by r v false true l h) i; moved = true })
 
-below_acts : (r : Range) (rs : List Range) (v : ℤ) → lt_z v (pos r.low) ≡ true → ruled (r ∷ rs) v ≡ record { word = r.low; moved = 1 }
+below_acts : (r : Range) (rs : List Range) (v : ℤ) → lt_z v (pos r.low) ≡ true → ruled (r ∷ rs) v ≡ record { word = r.low; moved = true }
 below_acts r rs v l =
     let h = lt_z (pos r.high) v in
-    rule_acts r rs v (λ i. l i || h) ∙ (λ i. record { word = sym (clipped_by r v true h l refl) i; moved = 1 })
+    rule_acts r rs v (λ i. l i || h) ∙ (λ i. record { word = sym (clipped_by r v true h l refl) i; moved = true })
 
 -- so it is beyond that end of a range inside
 above_inside : (a b : ℕ) → a ≤ b → (v : ℤ) → lt_z (pos b) v ≡ true → lt_z (pos a) v ≡ true
@@ -59,17 +60,17 @@ module _ (video n : Range) (inside : Inside n video) (v : ℤ) where
   abbrev now : Ruled
   now = ruled (rules Trim video n) v
 
-  above_changes : lt_z (pos video.high) v ≡ true → (was ≡ record { word = video.high; moved = 1 }) × (now ≡ record { word = n.high; moved = 1 })
+  above_changes : lt_z (pos video.high) v ≡ true → (was ≡ record { word = video.high; moved = true }) × (now ≡ record { word = n.high; moved = true })
   above_changes h =
       let order : video.low ≤ video.high = omega arith in
       (above_acts video (n ∷ []) v order h, above_acts n (video ∷ []) v inside.1 (above_inside n.high video.high inside.2 v h))
 
-  below_changes : lt_z v (pos video.low) ≡ true → (was ≡ record { word = video.low; moved = 1 }) × (now ≡ record { word = n.low; moved = 1 })
+  below_changes : lt_z v (pos video.low) ≡ true → (was ≡ record { word = video.low; moved = true }) × (now ≡ record { word = n.low; moved = true })
   below_changes l = (below_acts video (n ∷ []) v l, below_acts n (video ∷ []) v (below_inside n.low video.low inside.0 v l))
 
   other_stays : outside video v ≡ false → now ≡ was
   other_stays e =
-      (λ i. elim (outside n v) [ true ↦ record { word = clipped n v; moved = 1 } | false ↦ next_rule video [] v e i ])
+      (λ i. elim (outside n v) [ true ↦ record { word = clipped n v; moved = true } | false ↦ next_rule video [] v e i ])
       ∙ sym (next_rule video (n ∷ []) v e)
 
   moved_stays : now.moved ≡ was.moved
@@ -113,7 +114,7 @@ trimmed y c i =
     let luma = other_stays (video_at s) (nominal_at s).luma (luma_inside s) v.y (luma_video (matrix y) s c i) in
     let cb = moved_stays (video_at s) (nominal_at s).difference difference v.cb in
     let cr = moved_stays (video_at s) (nominal_at s).difference difference v.cr in
-    record { y = λ i. (luma i).word; cb = colour s v.cb; cr = colour s v.cr; moved = λ i. (luma i).moved + cb i + cr i }
+    record { y = λ i. (luma i).word; cb = colour s v.cb; cr = colour s v.cr; moved = λ i. bool_byte (luma i).moved + bool_byte (cb i) + bool_byte (cr i) }
 
 -- ---- the answers
 

@@ -6,6 +6,7 @@ use native.Mathlib.Nat.{lt_of_mul-lt-mul_right}
 use native.Mathlib.Omega.{arith}
 use lib.Dec.{lit<}
 use lib.IntN.{ℤ, pos}
+use mir.Val.{bool_byte}
 use Rattle.exact.specs.Signed.{rounded}
 use Rattle.exact.proofs.Difference.{pos_sub, sub_eq}
 use Rattle.exact.proofs.Nearest.{Rounds}
@@ -120,4 +121,4 @@ unfolding limited
 grey_returns x s d l h =
     let y = rule_keeps Plain (video_at s) (nominal_at s).luma (luma_inside s) d (l, h) in
     let c = rule_keeps Plain (video_at s) (nominal_at s).difference (difference_inside s) (128 * s) (omega arith, omega arith) in
-    (ap (limited Plain (video_at s) (nominal_at s)) (grey_encoded x s d) ∙ (λ i. record { words = record { y = (y i).word; cb = (c i).word; cr = (c i).word }; moved = (y i).moved + (c i).moved + (c i).moved }), grey_codes_lem x s (video_at s) d l h)
+    (ap (limited Plain (video_at s) (nominal_at s)) (grey_encoded x s d) ∙ (λ i. record { words = record { y = (y i).word; cb = (c i).word; cr = (c i).word }; moved = bool_byte (y i).moved + bool_byte (c i).moved + bool_byte (c i).moved }), grey_codes_lem x s (video_at s) d l h)

@@ -60,25 +60,25 @@ holding r v k e h =
     ap (outside r) e ∙ (λ i. low i || high i)
 
 -- a rule acts on a number beyond its range, and leaves any other to the next
-pub rule_acts : (r : Range) (rs : List Range) (v : ℤ) → outside r v ≡ true → ruled (r ∷ rs) v ≡ record { word = clipped r v; moved = 1 }
-rule_acts r rs v e = λ i. elim (e i) [ true ↦ record { word = clipped r v; moved = 1 } | false ↦ ruled rs v ]
+pub rule_acts : (r : Range) (rs : List Range) (v : ℤ) → outside r v ≡ true → ruled (r ∷ rs) v ≡ record { word = clipped r v; moved = true }
+rule_acts r rs v e = λ i. elim (e i) [ true ↦ record { word = clipped r v; moved = true } | false ↦ ruled rs v ]
 
 pub next_rule : (r : Range) (rs : List Range) (v : ℤ) → outside r v ≡ false → ruled (r ∷ rs) v ≡ ruled rs v
-next_rule r rs v e = λ i. elim (e i) [ true ↦ record { word = clipped r v; moved = 1 } | false ↦ ruled rs v ]
+next_rule r rs v e = λ i. elim (e i) [ true ↦ record { word = clipped r v; moved = true } | false ↦ ruled rs v ]
 
 -- what a rule leaves, by its range
 abbrev pub left_by : Range → ℤ → Ruled
-left_by r v = record { word = clipped r v; moved = bool_byte (outside r v) }
+left_by r v = record { word = clipped r v; moved = outside r v }
 
 -- what the rules leave where the others have nothing to do for a number that the first leaves to them
 by_first : (r : Range) (rs : List Range) (v : ℤ) → (outside r v ≡ false → ruled rs v ≡ ruled [] v) → ruled (r ∷ rs) v ≡ left_by r v
 by_first r rs v idle = go (lt_z v (pos r.low)) (lt_z (pos r.high) v) refl refl
   where
     go : (l h : Bool) → lt_z v (pos r.low) ≡ l → lt_z (pos r.high) v ≡ h →
-        ◌≡◌ {A = Ruled} (elim (l || h) [ true ↦ record { word = clipped r v; moved = 1 } | false ↦ ruled rs v ]) (record { word = clipped r v; moved = bool_byte (l || h) })
+        ◌≡◌ {A = Ruled} (elim (l || h) [ true ↦ record { word = clipped r v; moved = true } | false ↦ ruled rs v ]) (record { word = clipped r v; moved = l || h })
     go true h p q = refl
     go false true p q = refl
-    go false false p q = idle (λ i. p i || q i) ∙ (λ i. record { word = clipped_by r v false false p q i; moved = 0 })
+    go false false p q = idle (λ i. p i || q i) ∙ (λ i. record { word = clipped_by r v false false p q i; moved = false })
 
 pub alone : (r : Range) (v : ℤ) → ruled (r ∷ []) v ≡ left_by r v
 alone r v = by_first r [] v (λ (e : outside r v ≡ false). refl)
@@ -109,31 +109,31 @@ ruled_within e video n inside v =
     let r = range_of e video n in
     subst (λ (l : Ruled). Holds r l.word) (sym (held e video n inside v)) (clipped_within r v (range_inside e video n inside).1)
 
-pub moved_at_most_one : (rs : List Range) (v : ℤ) → (ruled rs v).moved ≤ 1
-moved_at_most_one [] v = omega arith
-moved_at_most_one (r ∷ rs) v = go (outside r v) (moved_at_most_one rs v)
-  where
-    go : (t : Bool) → (ruled rs v).moved ≤ 1 → let l : Ruled = elim t [ true ↦ record { word = clipped r v; moved = 1 } | false ↦ ruled rs v ] in l.moved ≤ 1
-    go true rest = omega arith
-    go false rest = rest
+at_most_one : (moved : Bool) → bool_byte moved ≤ 1
+at_most_one true = omega arith
+at_most_one false = omega arith
+
+unmoved_by : (moved : Bool) → bool_byte moved ≡ 0 → moved ≡ false
+unmoved_by true none = absurd (omega arith)
+unmoved_by false none = refl
 
 -- a number that its range holds is its own word
-pub rule_keeps : (e : Encoding) (video n : Range) → Inside n video → (k : ℕ) → Holds (range_of e video n) k → ruled (rules e video n) (pos k) ≡ record { word = k; moved = 0 }
+pub rule_keeps : (e : Encoding) (video n : Range) → Inside n video → (k : ℕ) → Holds (range_of e video n) k → ruled (rules e video n) (pos k) ≡ record { word = k; moved = false }
 rule_keeps e video n inside k h =
     let r = range_of e video n in
     let low = le-ltb k r.low h.0 in
     let high = le-ltb r.high k h.1 in
-    held e video n inside (pos k) ∙ (λ i. record { word = sym (clipped_by r (pos k) false false low high) i; moved = bool_byte (low i || high i) })
+    held e video n inside (pos k) ∙ (λ i. record { word = sym (clipped_by r (pos k) false false low high) i; moved = low i || high i })
 
 -- a number that no rule moved is its word
-unmoved_whole : (e : Encoding) (video n : Range) → Inside n video → (v : ℤ) → (ruled (rules e video n) v).moved ≡ 0 → v ≡ pos (ruled (rules e video n) v).word
+unmoved_whole : (e : Encoding) (video n : Range) → Inside n video → (v : ℤ) → (ruled (rules e video n) v).moved ≡ false → v ≡ pos (ruled (rules e video n) v).word
 unmoved_whole e video n inside v none = go (outside r v) refl
   where
     r : Range
     r = range_of e video n
 
     go : (t : Bool) → outside r v ≡ t → v ≡ pos (ruled (rules e video n) v).word
-    go true f = let same = held e video n inside v in absurd (omega (arith, sym none ∙ (λ i. (same i).moved) ∙ ap bool_byte f))
+    go true f = let same = held e video n inside v in absurd (false≢true (sym none ∙ (λ i. (same i).moved) ∙ f))
     go false f =
         let k = not_beyond r v f in
         k.is ∙ ap pos (sym (ap (λ (z : ℤ). (ruled (rules e video n) z).word) k.is ∙ ap (λ (l : Ruled). l.word) (rule_keeps e video n inside k.value k.holds)))
@@ -165,9 +165,9 @@ module _ (s : ℕ) (e : Encoding) where
   unfolding limited words_at
   unmoved x c none =
       let v = encoded_at x s c in
-      let y = unmoved_whole e (video_at s) (nominal_at s).luma (luma_inside s) v.y (omega arith) in
-      let cb = unmoved_whole e (video_at s) (nominal_at s).difference (difference_inside s) v.cb (omega arith) in
-      let cr = unmoved_whole e (video_at s) (nominal_at s).difference (difference_inside s) v.cr (omega arith) in
+      let y = unmoved_whole e (video_at s) (nominal_at s).luma (luma_inside s) v.y (unmoved_by _ (omega arith)) in
+      let cb = unmoved_whole e (video_at s) (nominal_at s).difference (difference_inside s) v.cb (unmoved_by _ (omega arith)) in
+      let cr = unmoved_whole e (video_at s) (nominal_at s).difference (difference_inside s) v.cr (unmoved_by _ (omega arith)) in
       let w = words_held v in
       let d = divisors x in (
         record {
@@ -183,7 +183,7 @@ module _ (s : ℕ) (e : Encoding) where
   unfolding limited
   nominal_unmoved x c i =
       let v = words_of x s c i in
-      let keeps : (n : Range) → Inside n (video_at s) → (k : ℕ) → Holds n k → ruled (rules e (video_at s) n) (pos k) ≡ record { word = k; moved = 0 } =
+      let keeps : (n : Range) → Inside n (video_at s) → (k : ℕ) → Holds n k → ruled (rules e (video_at s) n) (pos k) ≡ record { word = k; moved = false } =
       λ n inside k h. rule_keeps e (video_at s) n inside k (range_holds e (video_at s) n inside k h) in
       let y = keeps (nominal_at s).luma (luma_inside s) v.y.value (v.y.at_least_lem, v.y.at_most) in
       let cb = keeps (nominal_at s).difference (difference_inside s) v.cb.value (v.cb.at_least_lem, v.cb.at_most) in
@@ -195,7 +195,7 @@ unfolding limited
 moved_at_most_three e video n v =
     let luma = rules e video n.luma in
     let difference = rules e video n.difference in
-    omega (arith, moved_at_most_one luma v.y, moved_at_most_one difference v.cb, moved_at_most_one difference v.cr)
+    omega (arith, at_most_one (ruled luma v.y).moved, at_most_one (ruled difference v.cb).moved, at_most_one (ruled difference v.cr).moved)
 
 -- so no call gives a timing code
 pub never_timing : (y : System) (e : Encoding) (v : Unlimited) →

@@ -8,15 +8,16 @@ use Rattle.systems.specs.declared.Range.{Range}
 use Rattle.systems.specs.Systems.{kr, kg, kb}
 use Rattle.exact.specs.Signed.{Ratio, rounded}
 use Rattle.systems.specs.declared.Codes.{Codes}
+use Rattle.matrix.specs.declared.WideCodes.{WideCodes}
 use Rattle.matrix.specs.declared.Words.{Words}
 use Rattle.matrix.specs.declared.WordRanges.{WordRanges}
 use Rattle.matrix.specs.declared.Unclipped.{Unclipped}
 use Rattle.matrix.specs.declared.Unlimited.{Unlimited}
-use Rattle.matrix.specs.Triples.{red_of, green_of, blue_of}
+use Rattle.matrix.specs.Triples.{signed, red_of, green_of, blue_of}
 
--- the codes R, G and B that a triple holds
-abbrev pub triple : List ℕ → Codes
-triple c = record { r = get_or c 0 0; g = get_or c 1 0; b = get_or c 2 0 }
+-- the codes that are held as wide as a register
+abbrev pub narrow : WideCodes → Codes
+narrow c = record { r = c.r; g = c.g; b = c.b }
 
 -- codes that a range holds, and words that their ranges hold
 pub record CodesIn (n : Range) (c : Codes) : Type 0 where
@@ -107,6 +108,10 @@ decoding_rows x =
     ∷ (pos unit ∷ neg_ℤ (pos (fixed (219 * 2 * kb x * (10000 - kb x)) (y * kg x))) ∷ neg_ℤ (pos (fixed (219 * 2 * kr x * (10000 - kr x)) (y * kg x))) ∷ [])
     ∷ (pos unit ∷ pos (fixed (219 * 2 * (10000 - kb x)) y) ∷ pos 0 ∷ [])
     ∷ []
+
+-- what they multiply
+abbrev pub decoding_column : ℕ → Words → List ℤ
+decoding_column s w = pos w.y ∷ signed s w.cb ∷ signed s w.cr ∷ []
 
 -- no cb or cr is further from 0
 abbrev pub reach : ℕ

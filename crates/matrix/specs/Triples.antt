@@ -3,14 +3,14 @@
 -- Definitions only.
 use Rattle.std.specs.Prelude.{ℕ, ◌+◌, ◌*◌, ◌-◌, Bool, true, false, ◌&&◌, ◌||◌, List, [], ◌∷◌, ℤ, pos, negsuc, ◌+ℤ◌, ◌-ℤ◌, ◌*ℤ◌}
 use Rattle.std.specs.Int.Signed.{lt_z}
+use mir.Val.{bool_byte}
 use Rattle.exact.specs.Signed.{Ratio, rounded}
-use Rattle.exact.specs.Outcome.{Outcome, accepted, refused, ◌and_then◌, require}
+use Rattle.exact.specs.Outcome.{Outcome, accepted, ◌and_then◌, require}
 use Rattle.systems.specs.declared.Codes.{Codes}
 use Rattle.systems.specs.declared.Matrix.{Matrix}
 use Rattle.systems.specs.declared.Range.{Range}
 use Rattle.systems.specs.declared.System.{System}
 use Rattle.systems.specs.Systems.{matrix, scale, kr, kg, kb, nominal, nominal_difference, video_data, within, all_within, named}
-use Rattle.systems.specs.Refusals.{refusal}
 use Rattle.matrix.specs.declared.Words.{Words}
 use Rattle.matrix.specs.declared.WordRanges.{WordRanges}
 use Rattle.matrix.specs.declared.Unlimited.{Unlimited}
@@ -20,10 +20,6 @@ use Rattle.matrix.specs.declared.Encoding.{Encoding}
 use Rattle.matrix.specs.declared.Encoding.TheVariants.{Plain, Trim}
 use Rattle.matrix.specs.declared.Clips.{Clips}
 use Rattle.matrix.specs.declared.Clipped.{Clipped}
-use Rattle.matrix.specs.declared.Encoded.{Encoded}
-use Rattle.matrix.specs.declared.Encoded.TheVariants as encoded
-use Rattle.matrix.specs.declared.Decoded.{Decoded}
-use Rattle.matrix.specs.declared.Decoded.TheVariants as decoded
 
 -- kr·R + kg·G + kb·B
 abbrev pub weighted : Matrix → Codes → ℕ
@@ -83,16 +79,16 @@ rules Trim video nominal = nominal ∷ video ∷ []
 
 -- what the rules leave of a number that INT left: the first rule whose range it is beyond acts on it, and no other
 abbrev pub ruled : List Range → ℤ → Ruled
-ruled [] v = record { word = natural v; moved = 0 }
-ruled (r ∷ rs) v = elim (outside r v) [ true ↦ record { word = clipped r v; moved = 1 } | false ↦ ruled rs v ]
+ruled [] v = record { word = natural v; moved = false }
+ruled (r ∷ rs) v = elim (outside r v) [ true ↦ record { word = clipped r v; moved = true } | false ↦ ruled rs v ]
 
--- what the rules of Y' and those of Cb and Cr leave of the three: the words, and how many were moved, 0 to 3
+-- what the rules of Y' and those of Cb and Cr leave of the three: the words, and how many were moved, 0 to 3 (`bool_byte` is 1 where one was)
 abbrev pub limited_by : List Range → List Range → Unlimited → Limited
 limited_by luma difference v =
     let y = ruled luma v.y in
     let cb = ruled difference v.cb in
     let cr = ruled difference v.cr in
-    record { words = record { y = y.word; cb = cb.word; cr = cr.word }; moved = y.moved + cb.moved + cr.moved }
+    record { words = record { y = y.word; cb = cb.word; cr = cr.word }; moved = bool_byte y.moved + bool_byte cb.moved + bool_byte cr.moved }
 
 -- what the rules of an encoding leave of them
 unfoldable pub limited : Encoding → Range → WordRanges → Unlimited → Limited
@@ -153,12 +149,3 @@ words_within r w = within r w.y && within r w.cb && within r w.cr
 -- the codes of a word triple in the system that n names, or refusal 1 or 6
 abbrev pub codes_of_words : ℕ → Words → Outcome Clipped
 codes_of_words n w = named n and_then λ (y : System). require (words_within (video_data y) w) 6 (accepted (codes_at (matrix y) (scale y) (video_data y) w))
-
--- what the answers say
-abbrev pub words_outcome : Encoded → Outcome Limited
-words_outcome (encoded.Words l) = accepted l
-words_outcome (encoded.Refused r) = refused (refusal r)
-
-abbrev pub codes_outcome : Decoded → Outcome Clipped
-codes_outcome (decoded.Codes c) = accepted c
-codes_outcome (decoded.Refused r) = refused (refusal r)

@@ -4,18 +4,27 @@
 ghost use Rattle.std.specs.Prelude.{◌≡◌, ◌+◌, ◌*◌, ◌^◌, ◌≤◌, ◌<◌, [], ◌∷◌, pos, nat_abs, ◌-ℤ◌, ◌<ℤ◌};
 ghost use Rattle.exact.specs.Signed.{rounded};
 ghost use Rattle.systems.specs.Systems.{matrix, scale, video_data};
-ghost use Rattle.matrix.specs.Triples.{encoded_at, worded, words_at, limited, codes_at, words_of_codes, codes_of_words, words_outcome, codes_outcome, nominal_words, words_within, ◌plus◌, outside, clipped, rules, ruled, beyond};
-ghost use Rattle.matrix.specs.Inner.{triple, NominalCodes, TwelveBitCodes, TwelveBitWords, WordSized, Small, dotted, encoding_rows, colour_difference, decoding_rows, unclipped_at, fixed, from_fixed};
+ghost use Rattle.systems.specs.Refusals.{outcome};
+ghost use Rattle.matrix.specs.Triples.{encoded_at, worded, words_at, limited, codes_at, words_of_codes, codes_of_words, nominal_words, words_within, ◌plus◌, outside, clipped, rules, ruled, beyond};
+ghost use Rattle.matrix.specs.Inner.{narrow, NominalCodes, TwelveBitCodes, TwelveBitWords, WordSized, Small, dotted, encoding_rows, colour_difference, decoding_rows, decoding_column, unclipped_at, fixed, from_fixed};
 
-use systems::{Codes, Matrix, Named, Range, Refusal, System};
+use systems::{Codes, Matrix, Range, Refusal, System};
 
 // Y', Cb and Cr words of a sample.
 #[repr(C)]
-#[derive(Clone, Copy)]
+#[derive(Clone, Copy, PartialEq, Eq)]
 pub struct Words {
     pub y: u16,
     pub cb: u16,
     pub cr: u16,
+}
+
+// The codes of a sample as wide as a register, so that none has to be widened.
+#[derive(Clone, Copy)]
+pub struct WideCodes {
+    pub r: usize,
+    pub g: usize,
+    pub b: usize,
 }
 
 // The ranges that a sample's words are in.
@@ -32,7 +41,7 @@ pub enum Encoding {
     Trim,
 }
 
-// Y', Cb and Cr of a sample's codes before the rules: some are below 0 or above the greatest word.
+// Y', Cb and Cr of a sample's codes before the rules: some are below 0 or above the greatest word, so they are no `Words`.
 #[derive(Clone, Copy)]
 pub struct Unlimited {
     pub y: i64,
@@ -40,21 +49,21 @@ pub struct Unlimited {
     pub cr: i64,
 }
 
-// The word that the rules leave of a number, and whether one of them moved it, 1 or 0.
+// The word that the rules leave of a number, and whether one of them moved it.
 #[derive(Clone, Copy)]
 pub struct Ruled {
     pub word: u16,
-    pub moved: u32,
+    pub moved: bool,
 }
 
 // The words that the rules leave, and how many of them were moved.
-#[derive(Clone, Copy)]
+#[derive(Clone, Copy, PartialEq, Eq)]
 pub struct Limited {
     pub words: Words,
     pub moved: u32,
 }
 
-// R, G and B of a sample's words before they are clipped: some are below 0 or above the greatest code.
+// R, G and B of a sample's words before they are clipped: some are below 0 or above the greatest code, so they are no `Codes`.
 #[derive(Clone, Copy)]
 pub struct Unclipped {
     pub r: i64,
@@ -64,29 +73,17 @@ pub struct Unclipped {
 
 // How many components were brought up to the lower end of a range, and how many down to its upper end.
 #[repr(C)]
-#[derive(Clone, Copy)]
+#[derive(Clone, Copy, PartialEq, Eq)]
 pub struct Clips {
     pub low: u16,
     pub high: u16,
 }
 
 // The codes of a sample's words, and their clips.
-#[derive(Clone, Copy)]
+#[derive(Clone, Copy, PartialEq, Eq)]
 pub struct Clipped {
     pub codes: Codes,
     pub clips: Clips,
-}
-
-#[derive(Clone, Copy)]
-pub enum Encoded {
-    Words(Limited),
-    Refused(Refusal),
-}
-
-#[derive(Clone, Copy)]
-pub enum Decoded {
-    Codes(Clipped),
-    Refused(Refusal),
 }
 
 // The weights' unit.
@@ -114,36 +111,37 @@ const DIFFERENCE_ERROR: i64 = 1 << 26;
 const PRIMARY_ERROR: i64 = 1 << 13;
 
 // The words of a code triple; refused with 1, then 6.
-pub fn words_of_codes(system: u32, encoding: Encoding, codes: Codes) -> Encoded
-    ensures { words_outcome result ≡ words_of_codes system encoding codes }
+pub fn words_of_codes(system: u32, encoding: Encoding, codes: Codes) -> Result<Limited, Refusal>
+    ensures { outcome result ≡ words_of_codes system encoding codes }
 {
-    match System::from_number(system) {
-        Named::Known(y) => {
-            if codes.all_in(y.video_data()) {
-                let c = [codes.r as usize, codes.g as usize, codes.b as usize];
-                Encoded::Words(limited_in(y, encoding, unlimited_in(y, c)))
-            } else {
-                Encoded::Refused(Refusal::Code)
-            }
-        }
-        Named::Unknown => Encoded::Refused(Refusal::System),
+    let y = System::try_from(system)?;
+    if !codes.all_in(y.video_data()) {
+        return Err(Refusal::Code);
     }
+    Ok(limited_in(y, encoding, unlimited_in(y, WideCodes::from(codes))))
 }
 
 // The codes of a word triple; refused with 1, then 6.
-pub fn codes_of_words(system: u32, words: Words) -> Decoded
-    ensures { codes_outcome result ≡ codes_of_words system words }
+pub fn codes_of_words(system: u32, words: Words) -> Result<Clipped, Refusal>
+    ensures { outcome result ≡ codes_of_words system words }
 {
-    match System::from_number(system) {
-        Named::Known(y) => {
-            let video = y.video_data();
-            if words.all_in(video) {
-                Decoded::Codes(codes_in(y, video, words))
-            } else {
-                Decoded::Refused(Refusal::Code)
-            }
+    let y = System::try_from(system)?;
+    let video = y.video_data();
+    if !words.all_in(video) {
+        return Err(Refusal::Code);
+    }
+    Ok(codes_in(y, video, words))
+}
+
+impl From<Codes> for WideCodes {
+    ghost from_gives = { λ codes wide. narrow wide ≡ codes };
+
+    fn from(codes: Codes) -> WideCodes {
+        WideCodes {
+            r: usize::from(codes.r),
+            g: usize::from(codes.g),
+            b: usize::from(codes.b),
         }
-        Named::Unknown => Decoded::Refused(Refusal::System),
     }
 }
 
@@ -184,30 +182,22 @@ impl Clips {
 impl Encoding {
     // Trim is tried first if it is chosen, then the guard. Only one of them acts.
     fn ruled(self, video: Range, nominal: Range, v: i64) -> Ruled
-        ensures { (result ≡ ruled (rules self video nominal) v) × (result.moved ≤ 1) }
+        ensures { result ≡ ruled (rules self video nominal) v }
     {
         match self {
-            Encoding::Plain => guarded(video, v),
-            Encoding::Trim => {
-                if outside(nominal, v) {
-                    return Ruled {
-                        word: clip(nominal, v),
-                        moved: 1,
-                    };
-                }
-                guarded(video, v)
-            }
+            Encoding::Trim if outside(nominal, v) => held_to(nominal, v),
+            _ => held_to(video, v),
         }
     }
 }
 
-// What the guard leaves of a number.
-fn guarded(video: Range, v: i64) -> Ruled
-    ensures { result ≡ ruled (video ∷ []) v }
+// What one rule leaves of a number.
+fn held_to(range: Range, v: i64) -> Ruled
+    ensures { result ≡ ruled (range ∷ []) v }
 {
     Ruled {
-        word: clip(video, v),
-        moved: outside(video, v) as u32,
+        word: clip(range, v),
+        moved: outside(range, v),
     }
 }
 
@@ -227,14 +217,15 @@ fn limited_in(y: System, encoding: Encoding, v: Unlimited) -> Limited
             cb: blue.word,
             cr: red.word,
         },
-        moved: luma.moved + blue.moved + red.moved,
+        moved: luma.moved as u32 + blue.moved as u32 + red.moved as u32,
     }
 }
 
-// The words of one triple of nominal codes, which no rule moves. The codes are as wide as a register, so that none has to be widened.
-pub fn words_in(y: System, c: [usize; 3]) -> Words
-    requires { NominalCodes (scale y) (triple c) }
-    ensures { result ≡ words_at (matrix y) (scale y) (triple c) }
+// The words of one triple of nominal codes, which no rule moves.
+#[tactic(auto, unfolding(crate::specs::Triples::words_at))]
+pub fn words_in(y: System, c: WideCodes) -> Words
+    requires { NominalCodes (scale y) (narrow c) }
+    ensures { result ≡ words_at (matrix y) (scale y) (narrow c) }
 {
     to_words(unlimited_in(y, c))
 }
@@ -252,9 +243,9 @@ fn to_words(v: Unlimited) -> Words
 }
 
 // Y', Cb and Cr of one triple: an arm for each matrix makes its entries constants.
-fn unlimited_in(y: System, c: [usize; 3]) -> Unlimited
-    requires { TwelveBitCodes (triple c) }
-    ensures { result ≡ encoded_at (matrix y) (scale y) (triple c) }
+fn unlimited_in(y: System, c: WideCodes) -> Unlimited
+    requires { TwelveBitCodes (narrow c) }
+    ensures { result ≡ encoded_at (matrix y) (scale y) (narrow c) }
 {
     match y.matrix() {
         Matrix::Bt709 => unlimited_by(Matrix::Bt709, y, c),
@@ -263,14 +254,14 @@ fn unlimited_in(y: System, c: [usize; 3]) -> Unlimited
 }
 
 // Y', Cb and Cr by the rows of a matrix.
-fn unlimited_by(x: Matrix, y: System, c: [usize; 3]) -> Unlimited
-    requires { TwelveBitCodes (triple c) }
-    ensures { result ≡ encoded_at x (scale y) (triple c) }
+fn unlimited_by(x: Matrix, y: System, c: WideCodes) -> Unlimited
+    requires { TwelveBitCodes (narrow c) }
+    ensures { result ≡ encoded_at x (scale y) (narrow c) }
 {
     let w = x.weights();
     let m = encoding_rows(x);
     let middle = y.middle();
-    let t = [c[0] as i64, c[1] as i64, c[2] as i64];
+    let t = [c.r as i64, c.g as i64, c.b as i64];
     Unlimited {
         y: exact::int_of(dot(m[0], t) as u32, ONE as u32) as i64,
         cb: colour_difference(dot(m[1], t), w.kb, middle),
@@ -279,6 +270,7 @@ fn unlimited_by(x: Matrix, y: System, c: [usize; 3]) -> Unlimited
 }
 
 // 10000 times Y', Y' - B and Y' - R of (R, G, B).
+#[tactic(auto, using(crate::proofs::Weights::row_of), unfolding(crate::specs::Inner::encoding_rows))]
 fn encoding_rows(x: Matrix) -> [[i64; 3]; 3]
     ensures { result ≡ encoding_rows x }
 {
@@ -300,7 +292,8 @@ fn colour_difference(above: i64, weight: i64, middle: u16) -> i64
     sum >> FRACTION_BITS
 }
 
-// The codes of one triple, clipped to a range.
+// The codes of one triple, clipped to a range. That the words have 12 bits is asked here and below: as a type it would stand beside
+// `Words`, which is the C interface's, and change what `unclipped_by` takes.
 fn codes_in(y: System, n: Range, w: Words) -> Clipped
     requires { TwelveBitWords w }
     ensures { result ≡ codes_at (matrix y) (scale y) n w }
@@ -334,13 +327,20 @@ pub fn unclipped_by(x: Matrix, y: System, w: Words) -> Unclipped
     ensures { result ≡ unclipped_at x (scale y) w }
 {
     let m = decoding_rows(x);
-    let middle = y.middle();
-    let t = [w.y as i64, signed(w.cb, middle), signed(w.cr, middle)];
+    let t = decoding_column(y, w);
     Unclipped {
         r: primary(m[0], t),
         g: primary(m[1], t),
         b: primary(m[2], t),
     }
+}
+
+// What a decoding row multiplies: (Y', cb, cr).
+fn decoding_column(y: System, w: Words) -> [i64; 3]
+    ensures { result ≡ decoding_column (scale y) w }
+{
+    let middle = y.middle();
+    [w.y as i64, signed(w.cb, middle), signed(w.cr, middle)]
 }
 
 // The signed difference C - m of a Cb or Cr word.
@@ -363,7 +363,7 @@ fn decoding_rows(x: Matrix) -> [[i64; 3]; 3]
     let green_cr = fixed(cr * w.kr, y * w.kg);
     [
         [UNIT, 0, fixed(cr, y)],
-        [UNIT, 0 - green_cb, 0 - green_cr],
+        [UNIT, -green_cb, -green_cr],
         [UNIT, fixed(cb, y), 0],
     ]
 }
@@ -377,7 +377,7 @@ fn primary(row: [i64; 3], triple: [i64; 3]) -> i64
     code >> FRACTION_BITS
 }
 
-// A row of a matrix by a triple.
+// A row of a matrix by a triple. A sum over an iterator is no plainer for three products.
 fn dot(row: [i64; 3], triple: [i64; 3]) -> i64
     requires { Small row triple }
     ensures { result ≡ dotted row triple }
@@ -402,7 +402,7 @@ fn outside(n: Range, v: i64) -> bool
     (v < n.low as i64) | ((n.high as i64) < v)
 }
 
-// The nearer end of the range where a number is beyond it.
+// The nearer end of the range where a number is beyond it. `clamp` asks for low ≤ high, and this promises each range.
 pub fn clip(n: Range, v: i64) -> u16
     ensures { result ≡ clipped n v }
 {

@@ -4,11 +4,12 @@ use Prim.Native.Nat.{ℕ, ◌-◌}
 use mathlib.Core.Path.{◌≡◌}
 use mathlib.Core.List.{List, [], ◌∷◌, ◌++◌, map}
 use lib.ListN.{length, take, drop}
+use Rattle.std.specs.Prelude.{sum}
 use Rattle.exact.specs.Outcome.{Outcome, accepted, refused}
 use Rattle.block.proofs.Told.{Row}
 use Rattle.meter.specs.declared.Meter.{Meter}
 use Rattle.meter.specs.declared.Figures.{Figures}
-use Rattle.meter.specs.Meter.{total, kept}
+use Rattle.meter.specs.Meter.{kept}
 use Rattle.meter.proofs.Calls.{Card, Read, Ran}
 
 -- a count of each accepted read, in order; a refused one enters nothing
@@ -32,7 +33,7 @@ latest h = drop (length h - 64) h
 
 -- the figures over a history of low and of high counts
 abbrev pub over : List ℕ → List ℕ → Figures
-over ls hs = record { rows = length (latest ls); low = total (latest ls); high = total (latest hs) }
+over ls hs = record { rows = length (latest ls); low = sum (latest ls); high = sum (latest hs) }
 
 -- where a list may begin with any meter: its arrays are of 64 counts, and these are the counts of the rows that it holds, the oldest first
 pub record Arrays (m : Meter) : Type 0 where

@@ -1,7 +1,6 @@
 pub mod Calls
 pub mod Card
 pub mod Claims
-pub mod Sums
 pub mod Turns
 mod Windows
 pub mod Lists

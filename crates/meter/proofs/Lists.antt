@@ -15,7 +15,8 @@ use Rattle.block.proofs.Answerable.{read_for}
 use Rattle.block.proofs.Told.{Row, told, blocks_so}
 use Rattle.meter.specs.declared.Meter.{Meter}
 use Rattle.meter.specs.declared.Figures.{Figures}
-use Rattle.meter.specs.Meter.{total, empty, whole, kept, entered, metering, shown, figures}
+use Rattle.std.specs.Prelude.{sum}
+use Rattle.meter.specs.Meter.{empty, whole, kept, entered, metering, shown, figures}
 use Rattle.meter.proofs.Calls.{Card, Read, Ran, ends, after}
 use Rattle.meter.proofs.Card.{Reads, by_read, Shows, by_figures, card}
 use Rattle.meter.proofs.Claims.{entry, entries, lows, highs, latest, over, Arrays, held, held_lows, held_highs, Given, given, Claimed}
@@ -48,8 +49,8 @@ module _ {m : Meter} {ls hs : List ℕ} (g : Holds m ls hs) where
   shows_sums =
       let t = turn_of_lem g.parts in
       let rows = sym (held_length m.lows g.arrays.lows t) ∙ ap length g.lows in
-      let low = g.parts.low ∙ sym (held_total m.lows g.arrays.lows t) ∙ ap total g.lows in
-      let high = g.parts.high ∙ sym (held_total m.highs g.arrays.highs t) ∙ ap total g.highs in
+      let low = g.parts.low ∙ sym (held_total m.lows g.arrays.lows t) ∙ ap sum g.lows in
+      let high = g.parts.high ∙ sym (held_total m.highs g.arrays.highs t) ∙ ap sum g.highs in
       cc
 
 -- whatever was kept holds the rows that it holds
@@ -75,7 +76,7 @@ whole_kept : {m : Meter} → Whole m → kept m ≡ m
 whole_kept {m} w = rw (parts_whole m w)
 
 empty_holds : Holds (kept empty) [] []
-unfolding whole total
+unfolding whole
 empty_holds = record {
   parts = record { turn = refl; low = refl; high = refl };
   arrays = record { lows = refl; highs = refl };
@@ -165,7 +166,7 @@ faithful = record {
   reading = λ m bytes slice.
       let a = read_for bytes (length slice) in
       let after : Meter = metering m (header_of bytes (length slice)) in
-      (_, _, _, by_read lifetimes (lend bytes) (lend_mut slice) (lend bytes) (lend_mut (slice_after bytes slice)) (record { read = a.read; meter = after }) m (a.outcome, (refl, refl)));
+      (_, _, _, by_read lifetimes (lend bytes) (lend_mut slice) (lend bytes) (lend_mut (slice_after bytes slice)) (record { read = a.0; meter = after }) m (a.1, (refl, refl)));
   showing = λ m. (_, by_figures m refl);
 }
 

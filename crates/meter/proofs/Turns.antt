@@ -3,8 +3,8 @@
 use mathlib.Core.Path.{◌≡◌, refl, ◌∙◌}
 use mathlib.Core.Bool.{Bool, true, false, ◌&&◌, ◌||◌, false≢true}
 use mathlib.Core.Logic.{◌⊎◌, inl, inr, ⊎_elim}
-use mathlib.Core.List.{List, [], ◌∷◌}
-use Prim.Native.Nat.{ℕ, ◌+◌, ◌%◌, ◌≤◌, ◌<◌, min}
+use mathlib.Core.List.{List}
+use Prim.Native.Nat.{ℕ, ◌+◌, ◌%◌, ◌*◌, ◌≤◌, ◌<◌, min}
 use native.Mathlib.Nat.{eq-or-lt_of_le}
 use native.Mathlib.Numerals.{add-one}
 use native.Mathlib.Omega.{arith}
@@ -14,8 +14,13 @@ use lib.Seq.{take_all, take-suc-set}
 use borrow.Author.Tests.{ltb-true, eqb-true, lt-ltb, eq-eqb, ne_eqb}
 use Rattle.exact.proofs.Boolean.{each_of_three}
 use Rattle.meter.specs.declared.Meter.{Meter}
-use Rattle.meter.specs.Meter.{total, in_turn, whole, kept}
-use Rattle.meter.proofs.Sums.{total_append, total_of_one, total_exchanged}
+use mir.Syntax.{w16}
+use mir.Val.{Fits}
+use Rattle.std.specs.Prelude.{sum}
+use Rattle.std.proofs.Common.{length-take}
+use Rattle.std.proofs.lemmas.List.Elements.{All-from_get_or, All-take}
+use Rattle.std.proofs.lemmas.List.Sums.{sum_by_push, sum_by-set, sum_by-le}
+use Rattle.meter.specs.Meter.{in_turn, whole, kept}
 
 pub record InTurn (place rows : ℕ) : Type 0 where
   pub below : place < 64
@@ -54,25 +59,38 @@ next_turn {place} {rows} t = record {
       (λ e. inr (omega arith)) t.held;
 }
 
--- ---- the sum after one row more
+-- ---- the sum, and the sum after one row more
 
-module _ (l : List ℕ) (place x : ℕ) (long : length l ≡ 64) (h : place < 64) where
-  pub sum_grows : total (take (min 64 (place + 1)) (set l place x)) ≡ total (take place l) + x
-  sum_grows =
-      let e : min 64 (place + 1) ≡ place + 1 = omega arith in
-      rw (e, add-one place, take-suc-set l place x (omega arith)) (omega (arith, total_append (take place l) (x ∷ []), total_of_one x))
+module _ (counts : List ℕ) (place rows : ℕ) (turn : in_turn place rows ≡ true) where
+  -- of 16-bit counts
+  pub sum_fits : ((i : ℕ) → Fits w16 (get_or counts i 0)) → sum (take rows counts) ≤ 64 * 65535
+  sum_fits each =
+      let Most : ℕ → Type 0 = λ n. n ≤ 65535 in
+      let most = All-take Most rows counts (All-from_get_or Most counts 0 (λ i h. omega (arith, each i))) in
+      let few = at_most_64 (in_turn_lem place rows turn) in
+      omega (arith, length-take rows counts, sum_by-le (λ n. n) 65535 (take rows counts) most)
 
-  pub sum_moves : total (take 64 (set l place x)) + get_or l place 0 ≡ total (take 64 l) + x
-  sum_moves =
-      let long' : length (set l place x) ≡ 64 = length-set l place x ∙ long in
-      rw (take_all 64 l (omega arith), take_all 64 (set l place x) (omega arith)) (total_exchanged l place x (omega arith))
+  module _ (count : ℕ) (long : length counts ≡ 64) where
+    pub sum_grows : rows < 64 → sum (take (min 64 (rows + 1)) (set counts place count)) ≡ sum (take rows counts) + count
+    sum_grows h =
+        let t = in_turn_lem place rows turn in
+        let e : min 64 (rows + 1) ≡ place + 1 = omega (arith, fewer t h) in
+        rw (e, add-one place, take-suc-set counts place count (omega (arith, t.below)), fewer t h) (sum_by_push (λ n. n) (take place counts) count)
+
+    pub sum_moves : 64 ≤ rows → sum (take (min 64 (rows + 1)) (set counts place count)) + get_or counts place 0 ≡ sum (take rows counts) + count
+    sum_moves h =
+        let t = in_turn_lem place rows turn in
+        let e : min 64 (rows + 1) ≡ 64 = omega arith in
+        let long' : length (set counts place count) ≡ 64 = length-set counts place count ∙ long in
+        rw (e, all t h, take_all 64 counts (omega arith), take_all 64 (set counts place count) (omega arith))
+        (sum_by-set (λ n. n) counts place count 0 (omega (arith, t.below)))
 
 -- ---- a meter whose parts agree
 
 pub record Whole (m : Meter) : Type 0 where
   pub turn : in_turn m.place m.rows ≡ true
-  pub low : m.low ≡ total (take m.rows m.lows)
-  pub high : m.high ≡ total (take m.rows m.highs)
+  pub low : m.low ≡ sum (take m.rows m.lows)
+  pub high : m.high ≡ sum (take m.rows m.highs)
 
 pub whole_parts : (m : Meter) → whole m ≡ true → Whole m
 unfolding whole
@@ -80,12 +98,27 @@ whole_parts m e =
     let k = each_of_three _ _ _ e in
     record { turn = k.0; low = eqb-true _ _ k.1; high = eqb-true _ _ k.2 }
 
+pub place_below : (m : Meter) → whole m ≡ true → m.place < 64
+place_below m e = (in_turn_lem _ _ (whole_parts m e).turn).below
+
+pub rows_most : (m : Meter) → whole m ≡ true → m.rows ≤ 64
+rows_most m e = at_most_64 (in_turn_lem _ _ (whole_parts m e).turn)
+
+pub whole_turn : (m : Meter) → whole m ≡ true → in_turn m.place m.rows ≡ true
+whole_turn m e = (whole_parts m e).turn
+
+pub whole_low : (m : Meter) → whole m ≡ true → m.low ≡ sum (take m.rows m.lows)
+whole_low m e = (whole_parts m e).low
+
+pub whole_high : (m : Meter) → whole m ≡ true → m.high ≡ sum (take m.rows m.highs)
+whole_high m e = (whole_parts m e).high
+
 pub parts_whole : (m : Meter) → Whole m → whole m ≡ true
 unfolding whole
 parts_whole m w = simp (w.turn, eq-eqb _ _ w.low, eq-eqb _ _ w.high)
 
 pub kept_whole : (m : Meter) → whole (kept m) ≡ true
-unfolding whole total
+unfolding whole
 kept_whole m = by (whole m) refl
   where
     by : (t : Bool) → whole m ≡ t → whole (kept m) ≡ true

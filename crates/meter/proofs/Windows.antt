@@ -9,9 +9,9 @@ use native.Mathlib.Numerals.{add-one}
 use native.Mathlib.Omega.{arith}
 use lib.ListN.{length, get_or, take, drop, set, length-append, length-drop, length-set, take-append-drop}
 use lib.Seq.{take_all, drop-length, drop-cons, drop-drop, drop-append-le, drop-set-lt, take-suc-set, length-take-le}
-use Rattle.meter.specs.Meter.{total}
+use Rattle.std.specs.Prelude.{sum}
+use Rattle.std.proofs.lemmas.List.Sums.{sum_by-append}
 use Rattle.meter.proofs.Claims.{latest, held}
-use Rattle.meter.proofs.Sums.{total_append}
 use Rattle.meter.proofs.Turns.{InTurn}
 
 pub latest_few : (h : List ℕ) → length h ≤ 64 → latest h ≡ h
@@ -63,11 +63,11 @@ module _ (l : List ℕ) (long : length l ≡ 64) {place rows : ℕ} (t : InTurn 
   held_length = ⊎_elim (λ e. ap length (filling e) ∙ front ∙ sym e) (λ e.
       ap length (full e) ∙ omega (arith, t.below, front, length-append (drop place l) (take place l), length-drop place l)) t.held
 
-  pub held_total : total (held l place rows) ≡ total (take rows l)
-  held_total = ⊎_elim (λ e. ap total (filling e) ∙ ap (λ (n : ℕ). total (take n l)) (sym e)) (λ e.
-      let all = ap total (take_all rows l (omega arith)) in
-      let parted = ap total (take-append-drop place l) in
-      ap total (full e) ∙ omega (arith, total_append (drop place l) (take place l), total_append (take place l) (drop place l))) t.held
+  pub held_total : sum (held l place rows) ≡ sum (take rows l)
+  held_total = ⊎_elim (λ e. ap sum (filling e) ∙ ap (λ (n : ℕ). sum (take n l)) (sym e)) (λ e.
+      let all = ap sum (take_all rows l (omega arith)) in
+      let parted = ap sum (take-append-drop place l) in
+      ap sum (full e) ∙ omega (arith, sum_by-append (λ n. n) (drop place l) (take place l), sum_by-append (λ n. n) (take place l) (drop place l))) t.held
 
   module _ (x : ℕ) where
     abbrev entered_at : List ℕ

@@ -1,19 +1,14 @@
 -- Clipping over the 64 latest rows read (request 2026-08). Definitions only.
-use Rattle.std.specs.Prelude.{ℕ, ◌+◌, ◌%◌, min, Bool, ◌&&◌, ◌||◌, cond, List, [], ◌∷◌, ltb, eqb, take, set, replicate}
+use Rattle.std.specs.Prelude.{ℕ, ◌+◌, ◌%◌, min, Bool, ◌&&◌, ◌||◌, cond, List, ltb, eqb, sum, take, set, replicate}
 use Rattle.exact.specs.Outcome.{Outcome, accepted, refused}
 use Rattle.matrix.specs.declared.Clips.{Clips}
 use Rattle.block.specs.declared.Header.{Header}
 use Rattle.meter.specs.declared.Meter.{Meter}
 use Rattle.meter.specs.declared.Figures.{Figures}
 
--- the sum of counts
-unfoldable pub total : List ℕ → ℕ
-total [] = 0
-total (n ∷ ns) = n + total ns
-
 -- a meter that holds so many rows, whose counts stand at the front, and the place of the next row's counts
 abbrev pub holding : List ℕ → List ℕ → ℕ → ℕ → Meter
-holding lows highs place rows = record { lows = lows; highs = highs; low = total (take rows lows); high = total (take rows highs); place = place; rows = rows }
+holding lows highs place rows = record { lows = lows; highs = highs; low = sum (take rows lows); high = sum (take rows highs); place = place; rows = rows }
 
 -- no row was read
 abbrev pub empty : Meter
@@ -25,7 +20,7 @@ in_turn place rows = ltb place 64 && (eqb rows place || eqb rows 64)
 
 -- the parts of a meter agree with each other
 unfoldable pub whole : Meter → Bool
-whole m = in_turn m.place m.rows && eqb m.low (total (take m.rows m.lows)) && eqb m.high (total (take m.rows m.highs))
+whole m = in_turn m.place m.rows && eqb m.low (sum (take m.rows m.lows)) && eqb m.high (sum (take m.rows m.highs))
 
 -- the meter that a caller kept; where its parts do not agree it holds no row
 abbrev pub kept : Meter → Meter

@@ -1,12 +1,14 @@
 // Clipping low and high over the 64 latest rows read (request 2026-08). proofs/Claims.antt says what holds of every list of reads.
 #![tactic(auto)]
 
-ghost use Rattle.std.specs.Prelude.{◌≡◌, true, ◌+◌, ◌≤◌, ◌<◌, min, length, set, take};
-ghost use Rattle.block.specs.Read.{header_of, header_outcome, slice_after};
-ghost use Rattle.meter.specs.Meter.{total, empty, in_turn, whole, kept, entered, metering, figures};
+ghost use Rattle.std.specs.Prelude.{◌≡◌, true, ◌+◌, ◌≤◌, ◌<◌, min, length, set, sum, take};
+ghost use Rattle.systems.specs.Refusals.{outcome};
+ghost use Rattle.block.specs.Read.{header_of, slice_after};
+ghost use Rattle.meter.specs.Meter.{empty, in_turn, whole, kept, entered, metering, figures};
 
-use block::{BlockRead, read_block};
+use block::{Header, read_block};
 use matrix::Clips;
+use systems::Refusal;
 
 // The rows that a meter holds at most.
 const MOST_HELD: u32 = 64;
@@ -16,6 +18,7 @@ type Counts = [u16; MOST_HELD as usize];
 
 // The counts of the latest rows and their sums, where the counts of the next row go, and how many rows there are. The sums are kept,
 // so that a read costs the same however many rows came before. In this order of the fields a meter is copied without a call of memcpy.
+// The C interface has the fields one by one, and may hand in anything: that they agree is tested by `is_whole`, and no invariant.
 #[repr(C)]
 #[derive(Clone, Copy)]
 pub struct Meter {
@@ -29,7 +32,7 @@ pub struct Meter {
 
 // The sums over the rows that a meter holds, and how many rows these are.
 #[repr(C)]
-#[derive(Clone, Copy)]
+#[derive(Clone, Copy, PartialEq, Eq)]
 pub struct Figures {
     pub rows: u32,
     pub low: u32,
@@ -39,12 +42,11 @@ pub struct Figures {
 // What reading the block gives, and the meter after it.
 #[derive(Clone, Copy)]
 pub struct MeteredRead {
-    pub read: BlockRead,
+    pub read: Result<Header, Refusal>,
     pub meter: Meter,
 }
 
 impl Meter {
-    #[tactic(auto, unfolding(crate::specs::Meter::total))]
     pub fn new() -> Meter
         ensures { result ≡ empty }
     {
@@ -60,20 +62,16 @@ impl Meter {
 
     // Reads a block as read_block does, with its refusals, and enters the row where it is accepted.
     pub fn read(self, bytes: &[u8], codes: &mut [u16]) -> MeteredRead
-        ensures read_value { header_outcome result.read ≡ header_of bytes.now (length codes.old) }
+        ensures read_value { outcome result.read ≡ header_of bytes.now (length codes.old) }
         ensures codes_after { codes.new ≡ slice_after bytes.now codes.old }
         ensures meter_value { result.meter ≡ metering self (header_of bytes.now (length codes.old)) }
     {
-        match read_block(bytes, codes) {
-            BlockRead::Row(h) => MeteredRead {
-                read: BlockRead::Row(h),
-                meter: self.with_row(h.clips),
-            },
-            BlockRead::Refused(r) => MeteredRead {
-                read: BlockRead::Refused(r),
-                meter: self,
-            },
-        }
+        let read = read_block(bytes, codes);
+        let meter = match read {
+            Ok(header) => self.with_row(header.clips),
+            Err(_) => self,
+        };
+        MeteredRead { read, meter }
     }
 
     // The meter after a reading that was accepted with these clips. Whoever has read a block by itself enters its row so.
@@ -87,32 +85,27 @@ impl Meter {
     pub fn figures(self) -> Figures
         ensures { result ≡ figures self }
     {
-        let m = self.kept();
+        let kept = self.kept();
         Figures {
-            rows: m.rows,
-            low: m.low,
-            high: m.high,
+            rows: kept.rows,
+            low: kept.low,
+            high: kept.high,
         }
     }
 
     // The meter itself where its parts agree, else one that holds no row: a caller in C may have kept anything.
-    #[tactic(auto, unfolding(crate::specs::Meter::total))]
     fn kept(self) -> Meter
         ensures { result ≡ kept self }
     {
-        let lows = self.lows;
-        let highs = self.highs;
         if self.is_whole() {
-            self
-        } else {
-            Meter {
-                lows,
-                low: 0,
-                highs,
-                high: 0,
-                place: 0,
-                rows: 0,
-            }
+            return self;
+        }
+        Meter {
+            low: 0,
+            high: 0,
+            place: 0,
+            rows: 0,
+            ..self
         }
     }
 
@@ -120,31 +113,26 @@ impl Meter {
     fn is_whole(self) -> bool
         ensures { result ≡ whole self }
     {
-        let lows = self.lows;
-        let highs = self.highs;
-        let rows = self.rows;
-        if !in_turn(self.place, rows) {
+        if !in_turn(self.place, self.rows) {
             return false;
         }
-        (self.low == total(lows, rows)) & (self.high == total(highs, rows))
+        let rows = self.rows as usize;
+        (self.low == total(&self.lows[..rows])) & (self.high == total(&self.highs[..rows]))
     }
 
     // One row more; where there are 64, the oldest goes.
+    #[tactic(auto, using(crate::proofs::Turns::place_below, crate::proofs::Turns::rows_most, crate::proofs::Turns::whole_turn, crate::proofs::Turns::whole_low, crate::proofs::Turns::whole_high))]
     fn entered(self, clips: Clips) -> Meter
         requires { whole self ≡ true }
         ensures { result ≡ entered self clips }
     {
-        let lows = self.lows;
-        let highs = self.highs;
-        let place = self.place;
-        let rows = self.rows;
         Meter {
-            lows: replaced(lows, place, clips.low),
-            low: moving_sum(self.low, lows, place, rows, clips.low),
-            highs: replaced(highs, place, clips.high),
-            high: moving_sum(self.high, highs, place, rows, clips.high),
-            place: (place + 1) % MOST_HELD,
-            rows: one_more(rows),
+            lows: replaced(self.lows, self.place, clips.low),
+            low: moving_sum(self.low, self.lows, self.place, self.rows, clips.low),
+            highs: replaced(self.highs, self.place, clips.high),
+            high: moving_sum(self.high, self.highs, self.place, self.rows, clips.high),
+            place: (self.place + 1) % MOST_HELD,
+            rows: MOST_HELD.min(self.rows + 1),
         }
     }
 }
@@ -156,19 +144,12 @@ fn in_turn(place: u32, rows: u32) -> bool
     (place < MOST_HELD) & ((rows == place) | (rows == MOST_HELD))
 }
 
-// The sum over the rows.
-#[tactic(auto, using(crate::proofs::Sums::total_next), unfolding(crate::specs::Meter::total))]
-fn total(counts: Counts, rows: u32) -> u32
-    requires { rows ≤ 64 }
-    ensures { result ≡ total (take rows counts) }
+// The sum of counts.
+fn total(counts: &[u16]) -> u32
+    requires { length counts.now ≤ 64 }
+    ensures { result ≡ sum counts.now }
 {
-    let mut sum: u32 = 0;
-    let mut i: u32 = 0;
-    while i < rows {
-        sum += counts[i as usize] as u32;
-        i += 1;
-    }
-    sum
+    counts.iter().map(|count| u32::from(*count)).sum()
 }
 
 fn replaced(counts: Counts, place: u32, count: u16) -> Counts
@@ -181,23 +162,15 @@ fn replaced(counts: Counts, place: u32, count: u16) -> Counts
 }
 
 // The sum over the rows after one more: its count enters, and that of the row that goes leaves.
-fn moving_sum(sum: u32, counts: Counts, place: u32, rows: u32, count: u16) -> u32
-    requires { (sum ≡ total (take rows counts)) × (in_turn place rows ≡ true) }
-    ensures { result ≡ total (take (min 64 (rows + 1)) (set counts place count)) }
+#[tactic(auto, using(crate::proofs::Turns::sum_grows, crate::proofs::Turns::sum_moves))]
+fn moving_sum(before: u32, counts: Counts, place: u32, rows: u32, count: u16) -> u32
+    requires is_sum { before ≡ sum (take rows counts) }
+    requires in_turn { in_turn place rows ≡ true }
+    ensures { result ≡ sum (take (min 64 (rows + 1)) (set counts place count)) }
 {
+    let longer = before + u32::from(count);
     if rows < MOST_HELD {
-        sum + count as u32
-    } else {
-        sum + count as u32 - counts[place as usize] as u32
+        return longer;
     }
-}
-
-fn one_more(rows: u32) -> u32
-    ensures { result ≡ min 64 (rows + 1) }
-{
-    if MOST_HELD <= rows {
-        MOST_HELD
-    } else {
-        rows + 1
-    }
+    longer - u32::from(counts[place as usize])
 }

@@ -3,20 +3,22 @@
 use Prim.Native.Nat.{ℕ, suc, ◌+◌, ◌*◌}
 use mathlib.Core.Path.{◌≡◌, refl}
 use mathlib.Core.Bool.{Bool, true, false, not, ◌&&◌}
+use native.Mathlib.Omega.{arith}
 use lib.Dec.{ltb, leb, eqb}
 use lib.ListN.{length}
-use borrow.Author.Tests.{le-ltb, lt-ltb, le-leb, lt-leb, leb-true, leb-false, ltb-true, ltb-false}
+use Rattle.std.proofs.lemmas.Bool.Decides.{nat_tests}
 use Rattle.picture.specs.Book.{Call, opens, rows, closes, State, fresh, opened, closed, Answer, accepted, refused, among, accepts, choose, answers}
 
+-- by the two values of a test (std's cases_Bool gives a sum, which each proof would then take apart)
 pub split : {P : Type 0} (b : Bool) → (b ≡ true → P) → (b ≡ false → P) → P
 split true f g = f refl
 split false f g = g refl
 
-pub at_least_is_not_below : (a b : ℕ) → leb b a ≡ not (ltb a b)
-at_least_is_not_below a b = split (leb b a) (λ t. simp (t, le-ltb a b (leb-true b a t))) (λ t. simp (t, lt-ltb a b (leb-false b a t)))
+at_least_is_not_below : (a b : ℕ) → leb b a ≡ not (ltb a b)
+at_least_is_not_below a b = grind (arith, nat_tests)
 
-pub below_is_not_at_least : (a b : ℕ) → ltb a b ≡ not (leb b a)
-below_is_not_at_least a b = split (ltb a b) (λ t. simp (t, lt-leb b a (ltb-true a b t))) (λ t. simp (t, le-leb b a (ltb-false a b t)))
+below_is_not_at_least : (a b : ℕ) → ltb a b ≡ not (leb b a)
+below_is_not_at_least a b = grind (arith, nat_tests)
 
 -- whether the book accepts a call, and what its tables say of it: both accept, or both refuse, with a number that is not 0
 pub data Agree : Bool → Answer → Type 0 where

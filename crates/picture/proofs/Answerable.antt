@@ -1,7 +1,6 @@
 -- What a call on a picture comes to can always be answered.
 -- Assumes nothing.
 use Prim.Native.Nat.{ℕ, ◌*◌}
-use mathlib.Core.Path.{◌≡◌, refl}
 use mathlib.Core.List.{List}
 use lib.Dec.{ltb, leb, eqb}
 use lib.ListN.{length}
@@ -12,29 +11,11 @@ use Rattle.block.specs.Read.{width_ok}
 use Rattle.block.specs.Block.{size}
 use Rattle.picture.specs.declared.Phase.{Phase}
 use Rattle.picture.specs.declared.Phase.TheVariants.{Fresh, Open, Closed}
-use Rattle.picture.specs.declared.Picture.{Picture}
-use Rattle.picture.specs.declared.Change.{Change}
-use Rattle.picture.specs.declared.Change.TheVariants as change
-use Rattle.picture.specs.declared.Total.{Total}
-use Rattle.picture.specs.declared.Total.TheVariants as total
-use Rattle.picture.specs.Picture.{at, around, picture_outcome, height_ok, sized, total_bytes, total_outcome, begin, open_from, row_open, row_from, close_from}
+use Rattle.picture.specs.Picture.{around, height_ok, sized, total_bytes, begin, open_from, row_open, row_from, close_from}
 
--- an answer that says o
-pub record ChangeFor (o : Outcome Picture) : Type 0 where
-  pub change : Change
-  pub outcome : picture_outcome change ≡ o
-
-pub change_for : {o : Outcome Phase} → Answerable o → (b : ℕ) → ChangeFor (around o b)
-change_for (values f) b = record { change = change.To (at f b); outcome = refl }
-change_for (refusing r) b = record { change = change.Refused r; outcome = refl }
-
-pub record TotalFor (o : Outcome ℕ) : Type 0 where
-  pub total : Total
-  pub outcome : total_outcome total ≡ o
-
-pub total_for : {o : Outcome ℕ} → Answerable o → TotalFor o
-total_for (values b) = record { total = total.Bytes b; outcome = refl }
-total_for (refusing r) = record { total = total.Refused r; outcome = refl }
+-- so can the picture around a phase
+pub around_answerable : {o : Outcome Phase} → Answerable o → (b : ℕ) → Answerable (around o b)
+around_answerable a b = followed a (λ f. values _)
 
 sized_answerable : (w h : ℕ) → Answerable (sized w h)
 unfolding sized

@@ -5,17 +5,15 @@ use mathlib.Core.List.{List}
 use contract.Lifetimes.{Lfts}
 use denote.Ref.{Bor}
 use denote.MutBor.{MutBor}
+use Rattle.std.specs.Prelude.{Result}
 use Rattle.exact.specs.Outcome as outcome
 use Rattle.exact.specs.Outcome.{Outcome}
 use Rattle.systems.specs.Systems.{number}
+use Rattle.systems.specs.declared.refusal.Refusal.{Refusal}
+use Rattle.systems.specs.Refusals.{outcome}
 use Rattle.block.specs.declared.Header.{Header}
-use Rattle.block.specs.declared.BlockRead.{BlockRead}
-use Rattle.block.specs.Read.{header_outcome}
 use Rattle.block.proofs.read_block.Reads as read-call
 use Rattle.picture.specs.declared.Picture.{Picture}
-use Rattle.picture.specs.declared.Change.{Change}
-use Rattle.picture.specs.declared.Total.{Total}
-use Rattle.picture.specs.Picture.{picture_outcome, total_outcome}
 use Rattle.picture.specs.Book.{Answer, accepted, refused}
 use Rattle.picture.proofs.Picture.new.Reads as new-call
 use Rattle.picture.proofs.Picture.open.Reads as open-call
@@ -40,23 +38,23 @@ label_of (outcome.accepted h) = outcome.accepted (record { system = number h.sys
 label_of (outcome.refused n) = outcome.refused n
 
 pub data Opens (p : Picture) (n w h : ℕ) : Answer → Picture → Type 0 where
-  by_open : (r : Change) (p' : Picture) (n' w' h' : ℕ) → open-call.Post tt (p, (n, (w, (h, tt)))) r (p', (n', (w', (h', tt))))
-      → Opens p n w h (answer_of (picture_outcome r)) (leads p (picture_outcome r))
+  by_open : (r : Result Picture Refusal) (p' : Picture) (n' w' h' : ℕ) → open-call.Post tt (p, (n, (w, (h, tt)))) r (p', (n', (w', (h', tt))))
+      → Opens p n w h (answer_of (outcome r)) (leads p (outcome r))
 
 -- κs are the lifetimes of the two references, whatever they are
 pub data Rows (p : Picture) : List ℕ → List ℕ → Answer → List ℕ → Picture → Type 0 where
-  by_row : (κs : Lfts 2) (lights : Bor (List ℕ)) (out : MutBor (List ℕ)) (lights' : Bor (List ℕ)) (out' : MutBor (List ℕ)) (r : Change) (p' : Picture) → row-call.Post κs (p, (lights, (out, tt))) r (p', (lights', (out', tt)))
-      → Rows p lights.now out.now (answer_of (picture_outcome r)) out'.now (leads p (picture_outcome r))
+  by_row : (κs : Lfts 2) (lights : Bor (List ℕ)) (out : MutBor (List ℕ)) (lights' : Bor (List ℕ)) (out' : MutBor (List ℕ)) (r : Result Picture Refusal) (p' : Picture) → row-call.Post κs (p, (lights, (out, tt))) r (p', (lights', (out', tt)))
+      → Rows p lights.now out.now (answer_of (outcome r)) out'.now (leads p (outcome r))
 
 pub data Closes (p : Picture) : Answer → Picture → Type 0 where
-  by_close : (r : Change) (p' : Picture) → close-call.Post tt (p, tt) r (p', tt) → Closes p (answer_of (picture_outcome r)) (leads p (picture_outcome r))
+  by_close : (r : Result Picture Refusal) (p' : Picture) → close-call.Post tt (p, tt) r (p', tt) → Closes p (answer_of (outcome r)) (leads p (outcome r))
 
 pub data Reads : List ℕ → List ℕ → Outcome Label → List ℕ → Type 0 where
-  by_read_block : (κs : Lfts 2) (bytes : Bor (List ℕ)) (slice : MutBor (List ℕ)) (bytes' : Bor (List ℕ)) (slice' : MutBor (List ℕ)) (r : BlockRead) → read-call.Post κs (bytes, (slice, tt)) r (bytes', (slice', tt))
-      → Reads bytes.now slice.now (label_of (header_outcome r)) slice'.now
+  by_read_block : (κs : Lfts 2) (bytes : Bor (List ℕ)) (slice : MutBor (List ℕ)) (bytes' : Bor (List ℕ)) (slice' : MutBor (List ℕ)) (r : Result Header Refusal) → read-call.Post κs (bytes, (slice, tt)) r (bytes', (slice', tt))
+      → Reads bytes.now slice.now (label_of (outcome r)) slice'.now
 
 pub data Totals (w h : ℕ) : Outcome ℕ → Type 0 where
-  by_total_bytes : (r : Total) (w' h' : ℕ) → total-call.Post tt (w, (h, tt)) r (w', (h', tt)) → Totals w h (total_outcome r)
+  by_total_bytes : (r : Result ℕ Refusal) (w' h' : ℕ) → total-call.Post tt (w, (h, tt)) r (w', (h', tt)) → Totals w h (outcome r)
 
 abbrev pub card : Card
 card = record {

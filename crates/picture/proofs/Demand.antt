@@ -35,7 +35,7 @@ use Rattle.picture.proofs.Steps.{InStep, StepsTo, open_step, row_step, close_ste
 -- ---- what a row leaves in its buffer
 
 refused_leaves : (o : Opened) (lights out : List ℕ) (k : Outcome Phase) (n : ℕ) → answer_of k ≡ refused n → buffer_by k o lights out ≡ out
-refused_leaves o lights out (outcome.accepted q) n e = let z : ◌≡◌ {A = ℕ} 0 1 = cc in absurd (omega arith)
+refused_leaves o lights out (outcome.accepted q) n e = cc
 refused_leaves o lights out (outcome.refused m) n e = refl
 
 row_leaves : (f : Phase) (lights out : List ℕ) (n : ℕ) → answer_of (row_from f lights (length out)) ≡ refused n → buffer_from f lights out ≡ out

@@ -6,14 +6,15 @@ use mathlib.Core.List.{List, [], ◌∷◌, map}
 use lib.ListN.{length}
 use Rattle.exact.specs.Outcome.{Outcome}
 use Rattle.exact.proofs.Lending.{lend, lend_mut, lifetimes}
+use Rattle.systems.proofs.Answerable.{answer_for}
 use Rattle.block.specs.Read.{slice_after}
-use Rattle.block.proofs.Answerable.{read_for}
+use Rattle.block.proofs.Answerable.{reading_answerable}
 use Rattle.picture.specs.declared.Phase.TheVariants.{Fresh}
 use Rattle.picture.specs.Picture.{at, with_block, buffer_after}
 use Rattle.picture.specs.Book.{Call, opens, rows, closes, Answer}
 use Rattle.picture.proofs.Calls.{Label, Card, Lent, Lights, Ran, ends, after_open, after_row, after_close, History}
 use Rattle.picture.proofs.Card.{by_open, by_row, by_close, by_read_block, by_total_bytes, card}
-use Rattle.picture.proofs.Answerable.{change_for, total_for, open_answerable, row_answerable, close_answerable, total_answerable}
+use Rattle.picture.proofs.Answerable.{around_answerable, open_answerable, row_answerable, close_answerable, total_answerable}
 
 -- every call on a card comes to something, whatever it is given
 pub record Answering (card : Card) : Type 0 where
@@ -82,13 +83,13 @@ module _ {card : Card} (calls : Answering card) where
 pub answering : Answering card
 answering = record {
   news = (at Fresh 0, refl);
-  opens = λ p n w h. let a = change_for (open_answerable p.phase n w h) 0 in (_, _, by_open a.change p n w h a.outcome);
+  opens = λ p n w h. let a = answer_for (around_answerable (open_answerable p.phase n w h) 0) in (_, _, by_open a.0 p n w h a.1);
   rows = λ p lights out.
-      let a = change_for (row_answerable p.phase lights (length out)) (with_block p.phase p.bytes) in
-      (_, _, _, by_row lifetimes (lend lights) (lend_mut out) (lend lights) (lend_mut (buffer_after p lights out)) a.change p (a.outcome, refl));
-  closes = λ p. let a = change_for (close_answerable p.phase) p.bytes in (_, _, by_close a.change p a.outcome);
+      let a = answer_for (around_answerable (row_answerable p.phase lights (length out)) (with_block p.phase p.bytes)) in
+      (_, _, _, by_row lifetimes (lend lights) (lend_mut out) (lend lights) (lend_mut (buffer_after p lights out)) a.0 p (a.1, refl));
+  closes = λ p. let a = answer_for (around_answerable (close_answerable p.phase) p.bytes) in (_, _, by_close a.0 p a.1);
   reads = λ bytes slice.
-      let a = read_for bytes (length slice) in
-      (_, _, by_read_block lifetimes (lend bytes) (lend_mut slice) (lend bytes) (lend_mut (slice_after bytes slice)) a.read (a.outcome, refl));
-  totals = λ w h. let a = total_for (total_answerable w h) in (_, by_total_bytes a.total w h a.outcome);
+      let a = answer_for (reading_answerable bytes (length slice)) in
+      (_, _, by_read_block lifetimes (lend bytes) (lend_mut slice) (lend bytes) (lend_mut (slice_after bytes slice)) a.0 (a.1, refl));
+  totals = λ w h. let a = answer_for (total_answerable w h) in (_, by_total_bytes a.0 w h a.1);
 }

@@ -3,7 +3,6 @@ pub mod Calls
 pub mod Card
 pub mod Claims
 pub mod Faithful
-mod NotOpen
 mod Neighbours
 mod Rows
 pub mod Totals

@@ -1,14 +1,14 @@
 -- One call: the picture's answer and the row book's, side by side.
 -- Assumes nothing.
 use Prim.Native.Nat.{ℕ, ◌+◌, ◌*◌, ◌<◌, min}
-use mathlib.Core.Path.{◌≡◌, refl, sym, ap, ◌∙◌}
+use mathlib.Core.Path.{◌≡◌, refl}
 use mathlib.Core.Bool.{Bool, true, false, not, ◌&&◌}
 use mathlib.Core.List.{List}
 use native.Mathlib.Nat.{add-mul, one-mul}
 use native.Mathlib.Omega.{arith}
-use lib.Dec.{ltb, leb, eqb}
-use lib.ListN.{length}
-use borrow.Author.Tests.{eqb-true, eqb-false, leb-true, ltb-true}
+use lib.Dec.{eqb}
+use borrow.Author.Tests.{eqb-true, eqb-false}
+use Rattle.std.proofs.lemmas.Bool.Decides.{nat_tests}
 use Rattle.exact.specs.Outcome as outcome
 use Rattle.exact.specs.Outcome.{Outcome, ◌and_then◌}
 use Rattle.systems.specs.declared.System.{System}
@@ -22,7 +22,7 @@ use Rattle.picture.specs.declared.Phase.TheVariants.{Fresh, Open, Closed}
 use Rattle.picture.specs.declared.Picture.{Picture}
 use Rattle.picture.specs.Picture.{at, around, sized, begin_in, begin, opening, row_open, rowing, closing}
 use Rattle.picture.specs.Book.{Call, opens, rows, closes, opened, Answer, accepted, refused, among, choose, answers, next, next_sum}
-use Rattle.picture.proofs.Agreement.{split, at_least_is_not_below, below_is_not_at_least}
+use Rattle.picture.proofs.Agreement.{split}
 use Rattle.picture.proofs.Card.{answer_of, leads}
 use Rattle.picture.proofs.Claims.{state_of, Sized, Proper}
 use Rattle.picture.proofs.Totals.{total_most}
@@ -46,10 +46,7 @@ pub data Names (n : ℕ) : Outcome System → Bool → Type 0 where
   nothing : Names n (outcome.refused 1) false
 
 none_of_four : (n : ℕ) → (n ≡ 1 → ⊥) → (n ≡ 2 → ⊥) → (n ≡ 3 → ⊥) → (n ≡ 4 → ⊥) → among 1 4 n ≡ false
-none_of_four n a b c d =
-    split (leb 1 n)
-    (λ t. split (leb n 4) (λ u. absurd (omega (arith, leb-true 1 n t, leb-true n 4 u))) (λ u. simp (t, u)))
-    (λ t. simp t)
+none_of_four n a b c d = grind (arith, nat_tests)
 
 pub named_in_range : (n : ℕ) → Names n (named n) (among 1 4 n)
 named_in_range n =
@@ -75,28 +72,7 @@ begins : (p : Picture) (n w h : ℕ) {k : Outcome System} {t : Bool} → Names n
 unfolding sized
 begins p n w h nothing = record { same = refl; leads_on = refl; sums_on = refl; stays = λ g. g }
 begins p n w h (names y e) =
-    split (leb 1 w)
-    (λ a. split (leb w 7680)
-    (λ b. split (leb 1 h)
-    (λ c. split (leb h 4320)
-    (λ d. record {
-      same = simp (a, b, c, d);
-      leads_on = simp (a, b, c, d, e);
-      sums_on = simp (a, b, c, d);
-      stays = λ g. simp (a, b, c, d)
-          record {
-            width_from = leb-true 1 w a;
-            width_to = leb-true w 7680 b;
-            height_from = leb-true 1 h c;
-            height_to = leb-true h 4320 d;
-            rows_to = omega arith;
-            bytes_of = omega arith;
-          };
-    })
-    (λ d. record { same = simp (a, b, c, d); leads_on = simp (a, b, c, d); sums_on = simp (a, b, c, d); stays = λ g. simp (a, b, c, d) g }))
-    (λ c. record { same = simp (a, b, c); leads_on = simp (a, b, c); sums_on = simp (a, b, c); stays = λ g. simp (a, b, c) g }))
-    (λ b. record { same = simp (a, b); leads_on = simp (a, b); sums_on = simp (a, b); stays = λ g. simp (a, b) g }))
-    (λ a. record { same = simp a; leads_on = simp a; sums_on = simp a; stays = λ g. simp a g })
+    record { same = grind (arith, nat_tests); leads_on = grind (arith, nat_tests, e); sums_on = grind (arith, nat_tests); stays = λ g. grind (arith, nat_tests) }
 
 open_at : (f : Phase) (b n w h : ℕ) → StepsTo (at f b) (opens n w h) (opening (at f b) n w h)
 unfolding begin
@@ -111,7 +87,7 @@ open_step p n w h = open_at p.phase p.bytes n w h
 
 -- the bytes of a picture that has another row to come, with that row's block
 one_more : (o : Opened) (b : ℕ) → Sized o b → (o.rows + 1) * size o.width ≡ b + size o.width
-one_more o b g = rw (← g.bytes_of) (add-mul o.rows 1 (size o.width) ∙ ap (λ (n : ℕ). o.rows * size o.width + n) (one-mul (size o.width)))
+one_more o b g = omega (arith, g.bytes_of, add-mul o.rows 1 (size o.width), one-mul (size o.width))
 
 -- they fit 32 bits
 more_fit : (o : Opened) (b : ℕ) → Sized o b → o.rows < o.height → min 4294967295 (b + size o.width) ≡ b + size o.width
@@ -120,29 +96,12 @@ more_fit o b g l = omega (arith, total_most (o.rows + 1) o.width (omega (arith, 
 row_at : (f : Phase) (n : ℕ) (lights : List ℕ) (room : ℕ) → StepsTo (at f n) (rows lights room) (rowing (at f n) lights room)
 unfolding row_open
 row_at Fresh n lights room = record { same = refl; leads_on = refl; sums_on = λ g. refl; stays = λ g. g }
-row_at (Open o) n lights room =
-    let full = at_least_is_not_below o.rows o.height in
-    let short = below_is_not_at_least room (size o.width) in
-    split (ltb o.rows o.height)
-    (λ a. split (eqb (length lights) (3 * o.width))
-    (λ b. split (leb (size o.width) room)
-    (λ c. record {
-      same = simp (full, short, a, b, c);
-      leads_on = simp (a, b, c);
-      sums_on = λ g. simp (a, b, c) (more_fit o n g (ltb-true o.rows o.height a));
-      stays = λ g. let lt = ltb-true o.rows o.height a in simp (a, b, c)
-          record {
-            width_from = g.width_from;
-            width_to = g.width_to;
-            height_from = g.height_from;
-            height_to = g.height_to;
-            rows_to = omega arith;
-            bytes_of = one_more o n g ∙ sym (more_fit o n g lt);
-          };
-    })
-    (λ c. record { same = simp (full, short, a, b, c); leads_on = simp (a, b, c); sums_on = λ g. simp (a, b, c); stays = λ g. simp (a, b, c) g }))
-    (λ b. record { same = simp (full, a, b); leads_on = simp (a, b); sums_on = λ g. simp (a, b); stays = λ g. simp (a, b) g }))
-    (λ a. record { same = simp (full, a); leads_on = simp a; sums_on = λ g. simp a; stays = λ g. simp a g })
+row_at (Open o) n lights room = record {
+  same = grind (arith, nat_tests);
+  leads_on = grind (arith, nat_tests);
+  sums_on = λ g. grind (arith, nat_tests, more_fit o n g);
+  stays = λ g. grind (arith, nat_tests, one_more o n g, more_fit o n g);
+}
 row_at Closed n lights room = record { same = refl; leads_on = refl; sums_on = λ g. refl; stays = λ g. g }
 
 pub row_step : (p : Picture) (lights : List ℕ) (room : ℕ) → StepsTo p (rows lights room) (rowing p lights room)
@@ -153,9 +112,7 @@ row_step p lights room = row_at p.phase p.bytes lights room
 close_at : (f : Phase) (n : ℕ) → StepsTo (at f n) closes (closing (at f n))
 close_at Fresh n = record { same = refl; leads_on = refl; sums_on = λ g. refl; stays = λ g. g }
 close_at (Open o) n =
-    split (eqb o.rows o.height)
-    (λ t. record { same = simp t; leads_on = simp t; sums_on = λ g. simp t; stays = λ g. simp t tt })
-    (λ t. record { same = simp t; leads_on = simp t; sums_on = λ g. simp t; stays = λ g. simp t g })
+    record { same = grind (arith, nat_tests); leads_on = grind (arith, nat_tests); sums_on = λ g. grind (arith, nat_tests); stays = λ g. grind (arith, nat_tests) }
 close_at Closed n = record { same = refl; leads_on = refl; sums_on = λ g. refl; stays = λ g. g }
 
 pub close_step : (p : Picture) → StepsTo p closes (closing p)

@@ -2,7 +2,7 @@
 -- Assumes nothing.
 use Prim.Native.Nat.{ℕ, ◌+◌}
 use mathlib.Core.Path.{◌≡◌, refl, ap, ◌∙◌}
-use mathlib.Core.Bool.{true, false, false≢true}
+use mathlib.Core.Bool.{true, false}
 use mathlib.Core.List.{List, [], ◌∷◌, ◌++◌}
 use native.Mathlib.Nat.{zero-add}
 use native.Mathlib.Omega.{arith}
@@ -30,8 +30,8 @@ sum_adds b st (c ∷ cs) none = omega (arith, adds b st c none.0, sum_adds (next
 -- an accepted open has the sum at 0
 opens_at_0 : (b : ℕ) (st : State) (c : Call) → is_opening st c ≡ true → next_sum b st c ≡ 0
 opens_at_0 b st (opens n w h) e = simp e
-opens_at_0 b st (rows lights room) e = absurd (false≢true e)
-opens_at_0 b st closes e = absurd (false≢true e)
+opens_at_0 b st (rows lights room) e = cc
+opens_at_0 b st closes e = cc
 
 -- and so begins anew, whatever was there before
 begins_anew : (b : ℕ) (st : State) (before : List Call) (c : Call) (cs : List Call) → is_opening (state_from st before) c ≡ true

@@ -1,3 +1,2 @@
 pub mod Picture
-pub mod Inner
 pub mod Book

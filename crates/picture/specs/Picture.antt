@@ -4,7 +4,6 @@ use Rattle.std.specs.Prelude.{ℕ, ◌+◌, ◌*◌, min, Bool, ◌&&◌, cond, 
 use Rattle.exact.specs.Outcome.{Outcome, accepted, refused, ◌and_then◌, require}
 use Rattle.systems.specs.declared.System.{System}
 use Rattle.systems.specs.Systems.{named}
-use Rattle.systems.specs.Refusals.{refusal}
 use Rattle.block.specs.Block.{size}
 use Rattle.block.specs.Read.{width_ok}
 use Rattle.row.specs.Row.{row_block}
@@ -12,11 +11,7 @@ use Rattle.picture.specs.declared.Opened.{Opened}
 use Rattle.picture.specs.declared.Phase.{Phase}
 use Rattle.picture.specs.declared.Phase.TheVariants.{Fresh, Open, Closed}
 use Rattle.picture.specs.declared.Picture.{Picture}
-use Rattle.picture.specs.declared.Change.{Change}
-use Rattle.picture.specs.declared.Change.TheVariants as change
 use Rattle.picture.specs.declared.Size.{Size}
-use Rattle.picture.specs.declared.Total.{Total}
-use Rattle.picture.specs.declared.Total.TheVariants as total
 
 -- the picture at a phase, with the bytes written so far (request 2026-06)
 abbrev pub at : Phase → ℕ → Picture
@@ -37,11 +32,6 @@ sized w h = require (width_ok w) 2 (require (height_ok h) 3 (accepted (record { 
 -- the bytes that a picture of this size takes (request 2026-06)
 abbrev pub total_bytes : ℕ → ℕ → Outcome ℕ
 total_bytes w h = sized w h and_then λ s. accepted (s.height * size s.width)
-
--- what the answer says
-abbrev pub total_outcome : Total → Outcome ℕ
-total_outcome (total.Bytes b) = accepted b
-total_outcome (total.Refused r) = refused (refusal r)
 
 -- an open picture that calls can make
 unfoldable pub proper : Opened → ℕ → Bool
@@ -120,8 +110,3 @@ close_from Closed = refused 22
 
 abbrev pub closing : Picture → Outcome Picture
 closing p = around (close_from p.phase) p.bytes
-
--- what the answer says
-abbrev pub picture_outcome : Change → Outcome Picture
-picture_outcome (change.To p) = accepted p
-picture_outcome (change.Refused r) = refused (refusal r)

@@ -2,14 +2,14 @@
 // (demand 3, and request 2026-06 of the bytes), and docs/THEOREM.md explains them.
 #![tactic(auto)]
 
-ghost use Rattle.std.specs.Prelude.{◌≡◌, ◌&&◌, ◌+◌, min, leb, length};
+ghost use Rattle.std.specs.Prelude.{◌≡◌, ◌&&◌, leb, length};
+ghost use Rattle.systems.specs.Refusals.{outcome};
 ghost use Rattle.picture.specs.declared.Phase.TheVariants.{Fresh};
-ghost use Rattle.picture.specs.Picture.{at, around, sized, total_bytes, total_outcome, resumed, proper, begin_in, begin, open_from, opening, row_open, row_from, with_block, rowing, buffer_by, buffer_from, buffer_after, close_from, closing, picture_outcome};
-ghost use Rattle.picture.specs.Inner.{phase_outcome, size_outcome};
+ghost use Rattle.picture.specs.Picture.{at, sized, total_bytes, resumed, proper, begin, opening, row_open, rowing, buffer_by, buffer_after, closing};
 
 use block::size;
 use row::write_row;
-use systems::{MOST_ROWS, MOST_SAMPLES, Named, Refusal, System};
+use systems::{MOST_ROWS, MOST_SAMPLES, Refusal, System};
 
 // What an open picture was opened with, and how many of its rows were accepted.
 #[derive(Clone, Copy)]
@@ -34,27 +34,6 @@ pub struct Picture {
     bytes: u32,
 }
 
-// What a call makes of a picture. A refused picture stays as it was.
-#[derive(Clone, Copy)]
-pub enum Change {
-    To(Picture),
-    Refused(Refusal),
-}
-
-// What a call makes of the phase.
-#[derive(Clone, Copy)]
-enum Step {
-    To(Phase),
-    Refused(Refusal),
-}
-
-// The bytes of all blocks of a picture.
-#[derive(Clone, Copy)]
-pub enum Total {
-    Bytes(u32),
-    Refused(Refusal),
-}
-
 // A width and a height in their ranges.
 #[derive(Clone, Copy)]
 struct Size {
@@ -62,25 +41,14 @@ struct Size {
     height: u16,
 }
 
-#[derive(Clone, Copy)]
-enum Sizing {
-    To(Size),
-    Refused(Refusal),
-}
-
 // How many bytes a picture will take. Refused: 2, then 3.
 #[tactic(auto, using(crate::proofs::Totals::total_most, crate::proofs::Totals::sized_bounded))]
-pub fn total_bytes(width: u32, height: u32) -> Total
-    ensures { total_outcome result ≡ total_bytes width height }
+pub fn total_bytes(width: u32, height: u32) -> Result<u32, Refusal>
+    ensures { outcome result ≡ total_bytes width height }
 {
-    match sized(width, height) {
-        Sizing::To(s) => {
-            let row = size(s.width as usize);
-            let bytes = s.height as usize * row;
-            Total::Bytes(bytes as u32)
-        }
-        Sizing::Refused(r) => Total::Refused(r),
-    }
+    let Size { width, height } = sized(width, height)?;
+    let bytes = usize::from(height) * size(usize::from(width));
+    Ok(bytes as u32)
 }
 
 impl Picture {
@@ -97,9 +65,12 @@ impl Picture {
     pub fn resume(phase: Phase, bytes: u32) -> Picture
         ensures { result ≡ at (resumed phase bytes) bytes }
     {
-        Picture {
-            phase: resumed(phase, bytes),
-            bytes,
+        match phase {
+            Phase::Open(o) if !o.is_proper(bytes) => Picture {
+                phase: Phase::Fresh,
+                bytes,
+            },
+            _ => Picture { phase, bytes },
         }
     }
 
@@ -116,194 +87,112 @@ impl Picture {
     }
 
     // Refused: 21, then 1, 2, 3.
-    pub fn open(self, system: u32, width: u32, height: u32) -> Change
-        ensures { picture_outcome result ≡ opening self system width height }
+    pub fn open(self, system: u32, width: u32, height: u32) -> Result<Picture, Refusal>
+        ensures { outcome result ≡ opening self system width height }
     {
-        let phase = self.phase;
-        around(open_from(phase, system, width, height), 0)
+        if let Phase::Open(_) = self.phase {
+            return Err(Refusal::AlreadyOpen);
+        }
+        let phase = begin(system, width, height)?;
+        Ok(Picture { phase, bytes: 0 })
     }
 
     // One block to the front of the buffer. Refused: 22, 23, then 4, 5.
-    pub fn row(self, lights: &[u16], out: &mut [u8]) -> Change
-        ensures { (picture_outcome result ≡ rowing self lights.now (length out.old)) × (out.new ≡ buffer_after self lights.now out.old) }
+    pub fn row(self, lights: &[u16], out: &mut [u8]) -> Result<Picture, Refusal>
+        ensures { (outcome result ≡ rowing self lights.now (length out.old)) × (out.new ≡ buffer_after self lights.now out.old) }
     {
-        let phase = self.phase;
-        let bytes = with_block(phase, self.bytes);
-        around(row_from(phase, lights, out), bytes)
+        let Phase::Open(o) = self.phase else {
+            return Err(Refusal::NotOpen);
+        };
+        let phase = o.next_row(lights, out)?;
+        // No list of calls gets beyond a u32.
+        let bytes = self.bytes.saturating_add(size(usize::from(o.width)) as u32);
+        Ok(Picture { phase, bytes })
     }
 
     // Refused: 22, then 24.
-    pub fn close(self) -> Change
-        ensures { picture_outcome result ≡ closing self }
+    pub fn close(self) -> Result<Picture, Refusal>
+        ensures { outcome result ≡ closing self }
     {
-        let phase = self.phase;
-        around(close_from(phase), self.bytes)
-    }
-}
-
-// The picture around the phase that a call makes, with the bytes after it.
-fn around(step: Step, bytes: u32) -> Change
-    ensures { picture_outcome result ≡ around (phase_outcome step) bytes }
-{
-    match step {
-        Step::To(phase) => Change::To(Picture { phase, bytes }),
-        Step::Refused(r) => Change::Refused(r),
-    }
-}
-
-// The bytes with a row's block more.
-fn with_block(phase: Phase, bytes: u32) -> u32
-    ensures { result ≡ with_block phase bytes }
-{
-    match phase {
-        Phase::Fresh | Phase::Closed => bytes,
-        Phase::Open(o) => added(bytes, size(o.width as usize) as u32),
-    }
-}
-
-// No list of calls gets beyond a u32.
-fn added(bytes: u32, more: u32) -> u32
-    ensures { result ≡ min 4294967295 (bytes + more) }
-{
-    if bytes <= u32::MAX - more {
-        bytes + more
-    } else {
-        u32::MAX
-    }
-}
-
-fn resumed(phase: Phase, bytes: u32) -> Phase
-    ensures { result ≡ resumed phase bytes }
-{
-    match phase {
-        Phase::Fresh | Phase::Closed => phase,
-        Phase::Open(o) => {
-            if is_proper(o, bytes) {
-                phase
-            } else {
-                Phase::Fresh
-            }
+        match self.phase {
+            Phase::Open(o) if o.rows == o.height => Ok(Picture {
+                phase: Phase::Closed,
+                ..self
+            }),
+            Phase::Open(_) => Err(Refusal::RowsMissing),
+            Phase::Fresh | Phase::Closed => Err(Refusal::NotOpen),
         }
     }
 }
 
-// Whether calls can make it.
-#[tactic(auto, unfolding(crate::specs::Picture::proper))]
-fn is_proper(o: Opened, bytes: u32) -> bool
-    ensures { result ≡ proper o bytes }
-{
-    is_size(o.width as u32, MOST_SAMPLES)
-        & is_size(o.height as u32, MOST_ROWS)
-        & (o.rows <= o.height)
-        & (o.rows as usize * size(o.width as usize) == bytes as usize)
-}
+impl Opened {
+    // Whether calls can make it.
+    #[tactic(auto, unfolding(crate::specs::Picture::proper))]
+    fn is_proper(self, bytes: u32) -> bool
+        ensures { result ≡ proper self bytes }
+    {
+        is_size(u32::from(self.width), MOST_SAMPLES)
+            && is_size(u32::from(self.height), MOST_ROWS)
+            && self.rows <= self.height
+            && usize::from(self.rows) * size(usize::from(self.width)) == bytes as usize
+    }
 
-fn open_from(phase: Phase, system: u32, width: u32, height: u32) -> Step
-    ensures { phase_outcome result ≡ open_from phase system width height }
-{
-    match phase {
-        Phase::Fresh | Phase::Closed => begin(system, width, height),
-        Phase::Open(_) => Step::Refused(Refusal::AlreadyOpen),
+    // The phase after a row. Refused: 23, then 4, 5.
+    #[tactic(auto, unfolding(crate::specs::Picture::row_open))]
+    fn next_row(self, lights: &[u16], out: &mut [u8]) -> Result<Phase, Refusal>
+        ensures { (outcome result ≡ row_open self lights.now (length out.old)) × (out.new ≡ buffer_by (row_open self lights.now (length out.old)) self lights.now out.old) }
+    {
+        if self.height <= self.rows {
+            return Err(Refusal::AllRows);
+        }
+        if lights.len() != 3 * usize::from(self.width) {
+            return Err(Refusal::Lights);
+        }
+        if out.len() < size(usize::from(self.width)) {
+            return Err(Refusal::Output);
+        }
+        write_row(self.system, self.rows, self.width, lights, out);
+        Ok(Phase::Open(Opened {
+            rows: self.rows + 1,
+            ..self
+        }))
     }
 }
 
+// The phase that an open leads to. Refused: 1, 2, 3.
 #[tactic(auto, unfolding(crate::specs::Picture::begin))]
-fn begin(system: u32, width: u32, height: u32) -> Step
-    ensures { phase_outcome result ≡ begin system width height }
+fn begin(system: u32, width: u32, height: u32) -> Result<Phase, Refusal>
+    ensures { outcome result ≡ begin system width height }
 {
-    match System::from_number(system) {
-        Named::Known(y) => begin_in(y, width, height),
-        Named::Unknown => Step::Refused(Refusal::System),
-    }
-}
-
-fn begin_in(y: System, width: u32, height: u32) -> Step
-    ensures { phase_outcome result ≡ begin_in y width height }
-{
-    match sized(width, height) {
-        Sizing::To(s) => Step::To(Phase::Open(Opened {
-            system: y,
-            width: s.width,
-            height: s.height,
-            rows: 0,
-        })),
-        Sizing::Refused(r) => Step::Refused(r),
-    }
-}
-
-fn row_from(phase: Phase, lights: &[u16], out: &mut [u8]) -> Step
-    ensures { (phase_outcome result ≡ row_from phase lights.now (length out.old)) × (out.new ≡ buffer_from phase lights.now out.old) }
-{
-    match phase {
-        Phase::Fresh | Phase::Closed => Step::Refused(Refusal::NotOpen),
-        Phase::Open(o) => next_row(o, lights, out),
-    }
-}
-
-#[tactic(auto, unfolding(crate::specs::Picture::row_open))]
-fn next_row(o: Opened, lights: &[u16], out: &mut [u8]) -> Step
-    ensures { (phase_outcome result ≡ row_open o lights.now (length out.old)) × (out.new ≡ buffer_by (row_open o lights.now (length out.old)) o lights.now out.old) }
-{
-    let rows = o.rows;
-    let height = o.height;
-    let needed = 3 * o.width as usize;
-    let room = size(o.width as usize);
-    if height <= rows {
-        return Step::Refused(Refusal::AllRows);
-    }
-    if lights.len() != needed {
-        return Step::Refused(Refusal::Lights);
-    }
-    if out.len() < room {
-        return Step::Refused(Refusal::Output);
-    }
-    let system = o.system;
-    write_row(system, rows, o.width, lights, out);
-    let accepted = rows + 1;
-    Step::To(Phase::Open(Opened {
+    let system = System::try_from(system)?;
+    let Size { width, height } = sized(width, height)?;
+    Ok(Phase::Open(Opened {
         system,
-        width: o.width,
-        height: o.height,
-        rows: accepted,
+        width,
+        height,
+        rows: 0,
     }))
 }
 
-fn close_from(phase: Phase) -> Step
-    ensures { phase_outcome result ≡ close_from phase }
-{
-    match phase {
-        Phase::Fresh | Phase::Closed => Step::Refused(Refusal::NotOpen),
-        Phase::Open(o) => {
-            if o.rows == o.height {
-                Step::To(Phase::Closed)
-            } else {
-                Step::Refused(Refusal::RowsMissing)
-            }
-        }
-    }
-}
-
 #[tactic(auto, unfolding(crate::specs::Picture::sized))]
-fn sized(width: u32, height: u32) -> Sizing
-    ensures { size_outcome result ≡ sized width height }
+fn sized(width: u32, height: u32) -> Result<Size, Refusal>
+    ensures { outcome result ≡ sized width height }
 {
     if !is_size(width, MOST_SAMPLES) {
-        return Sizing::Refused(Refusal::Width);
+        return Err(Refusal::Width);
     }
     if !is_size(height, MOST_ROWS) {
-        return Sizing::Refused(Refusal::Height);
+        return Err(Refusal::Height);
     }
-    let samples = width as u16;
-    let rows = height as u16;
-    Sizing::To(Size {
-        width: samples,
-        height: rows,
+    Ok(Size {
+        width: width as u16,
+        height: height as u16,
     })
 }
 
 // From 1 to the most that there may be.
-fn is_size(size: u32, most: u16) -> bool
+pub fn is_size(size: u32, most: u16) -> bool
     ensures { result ≡ (leb 1 size && leb size most) }
 {
-    1 <= size && size <= most as u32
+    (1..=u32::from(most)).contains(&size)
 }

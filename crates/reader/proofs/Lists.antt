@@ -8,11 +8,12 @@ use native.Mathlib.Omega.{arith}
 use lib.Dec.{eqb}
 use lib.ListN.{length}
 use borrow.Author.Tests.{eqb-true}
+use Rattle.std.specs.Prelude.{None}
 use Rattle.exact.specs.Outcome.{Outcome, accepted, refused, ◌and_then◌}
 use Rattle.exact.proofs.Lending.{lend, lend_mut, lifetimes}
 use Rattle.systems.specs.declared.refusal.Refusal.TheVariants as refusal
 use Rattle.systems.proofs.Ranges.{in_range_lem}
-use Rattle.systems.proofs.Answerable.{Answerable, values, refusing, tested, followed}
+use Rattle.systems.proofs.Answerable.{Answerable, values, refusing, tested, followed, answer_for}
 use Rattle.block.specs.declared.Header.{Header}
 use Rattle.block.specs.Read as block-reading
 use Rattle.block.specs.Read.{header_of}
@@ -21,18 +22,13 @@ use Rattle.block.proofs.Told.{Row, told, blocks_so}
 use Rattle.picture.specs.Picture.{height_ok}
 use Rattle.picture.proofs.Agreement.{split}
 use Rattle.picture.proofs.Card.{leads}
-use Rattle.reader.specs.declared.Format.TheVariants.{Unknown}
 use Rattle.reader.specs.declared.Progress.{Progress}
 use Rattle.reader.specs.declared.Phase.{Phase}
 use Rattle.reader.specs.declared.Phase.TheVariants.{Unopened, Reading, Complete}
 use Rattle.reader.specs.declared.Reader.{Reader}
-use Rattle.reader.specs.declared.Change.{Change}
-use Rattle.reader.specs.declared.Change.TheVariants as change
 use Rattle.reader.specs.declared.Taken.{Taken}
-use Rattle.reader.specs.declared.RowRead.{RowRead}
-use Rattle.reader.specs.declared.RowRead.TheVariants as read
 use Rattle.reader.specs.Reader as defined
-use Rattle.reader.specs.Reader.{at, alike, in_turn, row_to, taking_from, taking, heard_of, slice_after, reader_outcome, taken_outcome}
+use Rattle.reader.specs.Reader.{at, alike, in_turn, row_to, taking_from, taking, heard_of, slice_after}
 use Rattle.reader.specs.Book.{Call, opens, blocks, makes, next, heard, answers_from}
 use Rattle.reader.proofs.Calls.{Card, Made, opening, block, Ran, ends, after_open, after_block}
 use Rattle.reader.proofs.Card.{next_reader, is_complete, Opens, by_open, Reads, by_read, Completes, by_phase, card}
@@ -86,16 +82,16 @@ accepted_told (accepted h) f w e = by (f h) refl
   where
     by : (k : Outcome Reader) → f h ≡ k → heard_of (f h and_then λ r. accepted (record { header = h; reader = r })) ≡ accepted h
     by (accepted r) s = rw s
-    by (refused n) s = let z : told (refused n) ≡ accepted w = rw s at e in let n : ◌≡◌ {A = ℕ} 0 1 = cc in absurd (omega arith)
+    by (refused n) s = let z : told (refused n) ≡ accepted w = rw s at e in cc
 accepted_told (refused n) f w e = refl
 
 accepted_reads : (f : Phase) (bs : List ℕ) (room : ℕ) (w : Row) → accepted w ≡ told (heard_of (taking_from f bs room)) → heard_of (taking_from f bs room) ≡ header_of bs room
-accepted_reads Unopened bs room w e = let z : ◌≡◌ {A = ℕ} 0 1 = cc in absurd (omega arith)
+accepted_reads Unopened bs room w e = cc
 accepted_reads (Reading p) bs room w e = accepted_told (header_of bs room) (λ h. in_turn p h.system h.row h.samples) w (sym e)
-accepted_reads Complete bs room w e = let z : ◌≡◌ {A = ℕ} 0 1 = cc in absurd (omega arith)
+accepted_reads Complete bs room w e = cc
 
 refused_slice : (o : Outcome Header) (n : ℕ) (bs slice : List ℕ) → refused n ≡ told o → block-reading.slice_by o bs slice ≡ slice
-refused_slice (accepted h) n bs slice e = let z : ◌≡◌ {A = ℕ} 0 1 = cc in absurd (omega arith)
+refused_slice (accepted h) n bs slice e = cc
 refused_slice (refused k) n bs slice e = refl
 
 -- ---- the rows since the last accepted opening
@@ -105,7 +101,7 @@ open_tracks r h g =
     split (height_ok h)
     (λ t.
     let low = (in_range_lem (record { low = 1; high = 4320 }) h t).0 in
-    simp t (reading {p = record { height = h; next = 0; format = Unknown }} (record { count = refl; below = omega arith; rows = refl })))
+    simp t (reading {p = record { height = h; next = 0; format = None }} (record { count = refl; below = omega arith; rows = refl })))
     (λ t. simp t g)
 
 -- where a block call leads, with what was heard of it
@@ -206,29 +202,12 @@ completes_so (by_phase f _ post) = ap is_complete post
 
 -- a refused call
 open_refused : (r : Reader) (o : Outcome Reader) (n : ℕ) → refused n ≡ heard o → leads r o ≡ r
-open_refused r (accepted q) n e = let z : ◌≡◌ {A = ℕ} 0 1 = cc in absurd (omega arith)
+open_refused r (accepted q) n e = cc
 open_refused r (refused m) n e = refl
 
 read_refused : (r : Reader) (o : Outcome Taken) (n : ℕ) → refused n ≡ told (heard_of o) → leads r (next_reader o) ≡ r
-read_refused r (accepted t) n e = let z : ◌≡◌ {A = ℕ} 0 1 = cc in absurd (omega arith)
+read_refused r (accepted t) n e = cc
 read_refused r (refused m) n e = refl
-
--- every outcome has an answer that says it
-record ChangeFor (o : Outcome Reader) : Type 0 where
-  change : Change
-  outcome : reader_outcome change ≡ o
-
-change_for : {o : Outcome Reader} → Answerable o → ChangeFor o
-change_for (values r) = record { change = change.To r; outcome = refl }
-change_for (refusing n) = record { change = change.Refused n; outcome = refl }
-
-record RowFor (o : Outcome Taken) : Type 0 where
-  read : RowRead
-  outcome : taken_outcome read ≡ o
-
-row_for : {o : Outcome Taken} → Answerable o → RowFor o
-row_for (values t) = record { read = read.Row t; outcome = refl }
-row_for (refusing n) = record { read = read.Refused n; outcome = refl }
 
 pub opening_answerable : (r : Reader) (h : ℕ) → Answerable (defined.opening r h)
 opening_answerable r h = tested (height_ok h) refusal.Height (values _)
@@ -254,10 +233,10 @@ faithful = record {
   open_stays = λ {k} {k'} {h} {n} one. let f = opens_so one in f.1 ∙ open_refused k (defined.opening k h) n f.0;
   read_stays = λ {k} {k'} {bytes} {slice} {left} {n} one. let f = reads_so one in f.next ∙ read_refused k (taking k bytes (length slice)) n f.answer;
   begins = (at Unopened, refl);
-  opening = λ k h. let a = change_for (opening_answerable k h) in (_, _, by_open a.change k h a.outcome);
+  opening = λ k h. let a = answer_for (opening_answerable k h) in (_, _, by_open a.0 k h a.1);
   reading = λ k bytes slice.
-      let a = row_for (taking_answerable k.phase bytes (length slice)) in
-      (_, _, _, by_read lifetimes (lend bytes) (lend_mut slice) (lend bytes) (lend_mut (slice_after k bytes slice)) a.read k (a.outcome, refl));
+      let a = answer_for (taking_answerable k.phase bytes (length slice)) in
+      (_, _, _, by_read lifetimes (lend bytes) (lend_mut slice) (lend bytes) (lend_mut (slice_after k bytes slice)) a.0 k (a.1, refl));
   completing = λ k. (_, by_phase k.phase k refl);
 }
 

@@ -8,6 +8,8 @@ use native.Mathlib.Omega.{arith}
 use lib.Dec.{eqb}
 use lib.ListN.{length, take, get_or}
 use borrow.Author.Tests.{eqb-true, eqb-false, eq-eqb}
+use Rattle.std.proofs.lemmas.Bool.Decides.{nat_tests}
+use Rattle.std.specs.Prelude.{Option, Some, None}
 use Rattle.exact.specs.Outcome.{Outcome, accepted, refused}
 use Rattle.systems.specs.declared.System.{System}
 use Rattle.systems.specs.Systems.{number}
@@ -28,7 +30,6 @@ use Rattle.picture.proofs.Demand as demand
 use Rattle.picture.proofs.Faithful as writing
 use Rattle.picture.proofs.Histories.{Answering, answering}
 use Rattle.reader.specs.declared.Format.{Format}
-use Rattle.reader.specs.declared.Format.TheVariants.{Unknown, Of}
 use Rattle.reader.specs.declared.Progress.{Progress}
 use Rattle.reader.specs.declared.Phase.{Phase}
 use Rattle.reader.specs.declared.Phase.TheVariants.{Reading, Complete}
@@ -58,7 +59,7 @@ record ReadsAs (e : Entry) (bytes slice : List ℕ) : Type 0 where
 
 labelled : (o : Outcome Header) (l : Label) → label_of o ≡ accepted l → (h : Header) × (o ≡ accepted h) × (number h.system ≡ l.system) × (h.samples ≡ l.samples) × (h.row ≡ l.row)
 labelled (accepted h) l e = (h, refl, cc, cc, cc)
-labelled (refused n) l e = let z : ◌≡◌ {A = ℕ} 0 1 = cc in absurd (omega arith)
+labelled (refused n) l e = cc
 
 reads_as : {card : writer.Card} {bytes : List ℕ} {e : Entry} → writing.Faithful card → Answering card → ReadsBack card bytes e → (slice : List ℕ) → 3 * e.width ≤ length slice → ReadsAs e bytes slice
 reads_as {card} {bytes} {e} does calls back slice long =
@@ -85,17 +86,17 @@ first_given w (next long later) = (refl, long, later)
 -- ---- the reader on its way: i rows were accepted, of the system n and width w
 
 module _ (n w h : ℕ) where
-  abbrev Fits : Format → Type 0
-  Fits Unknown = Unit {0}
-  Fits (Of y v) = (number y ≡ n) × (v ≡ w)
+  abbrev Fits : Option Format → Type 0
+  Fits None = Unit {0}
+  Fits (Some f) = (number f.system ≡ n) × (f.width ≡ w)
 
   data At : ℕ → Phase → Type 0 where
     under : {i : ℕ} {p : Progress} → p.height ≡ h → p.next ≡ i → i < h → Fits p.format → At i (Reading p)
     whole : {i : ℕ} → i ≡ h → At i Complete
 
-  fits_alike : (f : Format) (y : System) (v : ℕ) → Fits f → number y ≡ n → v ≡ w → alike f y v ≡ true
-  fits_alike Unknown y v g a b = refl
-  fits_alike (Of z u) y v g a b = simp (eq-eqb (number y) (number z) (a ∙ sym g.0), eq-eqb v u (b ∙ sym g.1))
+  fits_alike : (f : Option Format) (y : System) (v : ℕ) → Fits f → number y ≡ n → v ≡ w → alike f y v ≡ true
+  fits_alike None y v g a b = refl
+  fits_alike (Some f) y v g a b = grind (arith, nat_tests)
 
   -- the next block leads on
   record Led (f : Phase) (bytes slice : List ℕ) (hd : Header) (i : ℕ) : Type 0 where
@@ -119,7 +120,7 @@ module _ (n w h : ℕ) where
       let below : i + 1 < h = omega arith in
       record {
         takes = simp (e, t, u);
-        leads_to = simp (e, t, u, c) (under {p = record { height = p.height; next = p.next + 1; format = Of hd.system hd.samples }} tall here below (a, b));
+        leads_to = simp (e, t, u, c) (under {p = record { height = p.height; next = p.next + 1; format = Some (record { system = hd.system; width = hd.samples }) }} tall here below (a, b));
       })
   leads_on (whole last) more e a b row = absurd (omega arith)
 
@@ -159,8 +160,8 @@ module _ (n w h : ℕ) where
 -- ---- any two cards that do what the definitions say
 
 -- an opening with a height that a picture can have
-begun : (r : Reader) (h : ℕ) → height_ok h ≡ true → (heard (defined.opening r h) ≡ accepted tt) × (leads r (defined.opening r h) ≡ at (Reading (record { height = h; next = 0; format = Unknown })))
-begun r h t = (simp t, simp t)
+begun : (r : Reader) (h : ℕ) → height_ok h ≡ true → (heard (defined.opening r h) ≡ accepted tt) × (leads r (defined.opening r h) ≡ at (Reading (record { height = h; next = 0; format = None })))
+begun r h t = grind (arith, nat_tests)
 
 pub together : {writes : writer.Card} {reads : Card} → writing.Faithful writes → Answering writes → Faithful reads → Together writes reads
 together does calls takes = record {
@@ -169,7 +170,7 @@ together does calls takes = record {
       let low = in_range_lem (record { low = 1; high = 4320 }) h all.tall in
       let f = takes.opens opens in
       let from = begun (takes.reader k) h all.tall in
-      let starts : At n w h 0 (takes.reader k').phase = rw (f.1 ∙ from.1) (under {p = record { height = h; next = 0; format = Unknown }} refl refl (omega arith) tt) in
+      let starts : At n w h 0 (takes.reader k').phase = rw (f.1 ∙ from.1) (under {p = record { height = h; next = 0; format = None }} refl refl (omega arith) tt) in
       let read = rows_return n w h does calls takes starts (omega (arith, all.count)) ran all.blocks all.entered in_order in
       record { opened = f.0 ∙ from.0; all = all.count; rows = read.0; complete = takes.completes shown ∙ read.1 };
   sends = sent_with does calls;

@@ -8,12 +8,12 @@ use native.Mathlib.Omega.{arith}
 use lib.Dec.{eqb}
 use lib.ListN.{length, length-append}
 use borrow.Author.Tests.{eqb-true, eqb-false, eq-eqb, ne_eqb}
+use Rattle.std.specs.Prelude.{Option, Some, None}
 use Rattle.systems.specs.Systems.{number}
 use Rattle.block.specs.declared.Header.{Header}
 use Rattle.block.proofs.Told.{Row}
 use Rattle.picture.proofs.Agreement.{split}
 use Rattle.reader.specs.declared.Format.{Format}
-use Rattle.reader.specs.declared.Format.TheVariants.{Unknown, Of}
 use Rattle.reader.specs.declared.Progress.{Progress}
 use Rattle.reader.specs.declared.Phase.{Phase}
 use Rattle.reader.specs.declared.Phase.TheVariants.{Unopened, Reading, Complete}
@@ -28,9 +28,9 @@ numbered_more n w i [] r g row system samples = (omega arith, system, samples, t
 numbered_more n w i (x ∷ ws) r g row system samples = (g.0, g.1, g.2, numbered_more n w (i + 1) ws r g.3 (omega arith) system samples)
 
 -- the accepted rows, by the format that a reader has
-abbrev pub Formatted : Format → List Row → Type 0
-Formatted Unknown ws = ws ≡ []
-Formatted (Of y w) ws = Numbered (number y) w 0 ws
+abbrev pub Formatted : Option Format → List Row → Type 0
+Formatted None ws = ws ≡ []
+Formatted (Some f) ws = Numbered (number f.system) f.width 0 ws
 
 pub record Under (p : Progress) (ws : List Row) : Type 0 where
   pub count : length ws ≡ p.next
@@ -47,11 +47,11 @@ pub data Tracks : Phase → Since → Type 0 where
 abbrev pub row_of : Header → Row
 row_of h = record { system = number h.system; row = h.row; samples = h.samples; low = h.clips.low; high = h.clips.high }
 
-one_more : (f : Format) (h : Header) (ws : List Row) → Formatted f ws → h.row ≡ length ws → alike f h.system h.samples ≡ true → Numbered (number h.system) h.samples 0 (ws ++ row_of h ∷ [])
+one_more : (f : Option Format) (h : Header) (ws : List Row) → Formatted f ws → h.row ≡ length ws → alike f h.system h.samples ≡ true → Numbered (number h.system) h.samples 0 (ws ++ row_of h ∷ [])
 unfolding Numbered
-one_more Unknown h ws none row e = rw none (row ∙ ap length none, refl, refl, tt)
-one_more (Of z v) h ws g row e =
-    let same = same_format z h.system v h.samples e in
+one_more None h ws none row e = rw none (row ∙ ap length none, refl, refl, tt)
+one_more (Some f) h ws g row e =
+    let same = same_format f h.system h.samples e in
     numbered_more _ _ 0 ws (row_of h) (rw (same.0, same.1) g) (omega arith) refl refl
 
 pub row_tracks : (p : Progress) (h : Header) (ws : List Row) → Under p ws → h.row ≡ p.next → alike p.format h.system h.samples ≡ true
@@ -66,7 +66,7 @@ row_tracks p h ws u row e =
     simp t (whole (record { system = _; width = _; rows = rows }) all))
     (λ t.
     let more = eqb-false (p.next + 1) p.height t in
-    simp t (reading {p = record { height = p.height; next = p.next + 1; format = Of h.system h.samples }} {ws = ws ++ row_of h ∷ []} (record {
+    simp t (reading {p = record { height = p.height; next = p.next + 1; format = Some (record { system = h.system; width = h.samples }) }} {ws = ws ++ row_of h ∷ []} (record {
       count = omega (arith, u.count, long);
       below = omega (arith, u.below);
       rows = rows;
@@ -81,7 +81,7 @@ tracks_holds (reading {p} {ws} u) = record {
   complete = sym (ne_eqb _ _ (λ (e : length ws ≡ p.height). omega (arith, u.count, u.below)));
 }
   where
-    of : (f : Format) → Formatted f ws → InOrder ws
-    of Unknown e = rw e (record { system = 0; width = 0; rows = tt })
-    of (Of y w) g = record { system = number y; width = w; rows = g }
+    of : (f : Option Format) → Formatted f ws → InOrder ws
+    of None e = rw e (record { system = 0; width = 0; rows = tt })
+    of (Some f) g = record { system = number f.system; width = f.width; rows = g }
 tracks_holds (whole o e) = record { in_order = o; at_most = omega arith; complete = sym (eq-eqb _ _ e) }

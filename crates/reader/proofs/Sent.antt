@@ -2,7 +2,7 @@
 -- Assumes nothing.
 use Prim.Native.Nat.{ℕ, ◌+◌}
 use mathlib.Core.Path.{◌≡◌, refl, subst, ◌∙◌}
-use mathlib.Core.Bool.{Bool, true, ◌&&◌, false≢true}
+use mathlib.Core.Bool.{Bool, true, ◌&&◌}
 use mathlib.Core.List.{List, [], ◌∷◌}
 use native.Mathlib.Omega.{arith}
 use lib.Dec.{eqb}
@@ -50,20 +50,20 @@ entries_all s (rows lights room ∷ cs) none e =
     (λ t. simp t (entries_all s cs (simp t at none.1) (simp t at e)))
 entries_all s (closes ∷ cs) none e =
     split (eqb s.count s.height)
-    (λ t. absurd (false≢true (rw (closed_stays cs (simp t at none.1)) at (simp t at e))))
+    (λ t. let no = rw (closed_stays cs (simp t at none.1)) at (simp t at e) in cc)
     (λ t. simp t (entries_all s cs (simp t at none.1) (simp t at e)))
 
 -- what is accepted, the book accepts
 book_accepts : {t : Bool} {a : Answer} → Agree t a → accepted ≡ a → t ≡ true
 book_accepts both_accept e = refl
-book_accepts (both_refuse n) e = let z : ◌≡◌ {A = ℕ} 0 1 = cc in absurd (omega arith)
+book_accepts (both_refuse n) e = cc
 
 tall_enough : (n w h : ℕ) → in_ranges n w h ≡ true → among 1 4320 h ≡ true
 tall_enough n w h e = (each_of_three true (among 1 7680 w) (among 1 4320 h) (each_of_three true (among 1 4 n) (among 1 7680 w && among 1 4320 h) e).2).2
 
 opens_to : (st : State) (n w h : ℕ) → accepts st (opens n w h) ≡ true → (next st (opens n w h) ≡ begins n w h) × (among 1 4320 h ≡ true)
 opens_to fresh n w h e = (rw e, tall_enough n w h e)
-opens_to (opened s) n w h e = absurd (false≢true e)
+opens_to (opened s) n w h e = cc
 opens_to closed n w h e = (rw e, tall_enough n w h e)
 
 -- ---- the calls
@@ -92,7 +92,7 @@ sent_whole {card} {n} {w} {h} {cs} {ls} does s =
 
 book_accepted : {t : Bool} {a : Answer} → Agree t a → t ≡ true → a ≡ accepted
 book_accepted both_accept e = refl
-book_accepted (both_refuse n) e = absurd (false≢true e)
+book_accepted (both_refuse n) e = cc
 
 pub sent_with : {card : Card} {former : List Call} {n w h : ℕ} {cs : List Call} {bs bs' : List (List ℕ)} → Faithful card → Answering card → Sends former n w h cs → Lends former bs → Lends cs bs'
     → SentWith card n w h cs bs'

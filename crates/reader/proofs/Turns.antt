@@ -19,7 +19,7 @@ use Rattle.reader.specs.declared.Taken.{Taken}
 use Rattle.reader.specs.Reader.{in_turn, row_to, taking_from, taking, heard_of, slice_after}
 use Rattle.reader.specs.Inner.{turn_by, turn_from, turn_at, turn_of}
 
--- what reading makes of a walked block: its header, or a refusal
+-- what reading makes of a walked block: its header, or a refusal (one grind over all the tests stops at its limit of case splits)
 data ReadsAs (b : Judged) (bs : List ℕ) : Outcome Header → Type 0 where
   as_row : ReadsAs b bs (accepted (header b bs))
   refused_by : (n : ℕ) → ReadsAs b bs (refused n)
@@ -85,3 +85,10 @@ module _ (r : Reader) (bs slice : List ℕ) where
   no_turn e =
       let same = turn_then_reading bs (length slice) r.phase ∙ ap (λ (k : Outcome Reader). k and_then with_reader (header_of bs (length slice))) e in
       (same, ap (λ (k : Outcome Taken). block.slice_by (heard_of k) bs slice) (sym same))
+
+  -- and where it accepts
+  pub row_read : {q : Reader} {h : Header} {left : List ℕ} → accepted q ≡ turn_of r bs (length slice) → accepted h ≡ header_of bs (length slice) → left ≡ block.slice_after bs slice
+      → (accepted (record { header = h; reader = q }) ≡ taking r bs (length slice)) × (left ≡ slice_after r bs slice)
+  row_read {q} e f g =
+      let turned = next_row (sym e) in
+      (sym (turned.0 ∙ ap (λ (o : Outcome Header). with_reader o q) (sym f)), g ∙ turned.1)

@@ -1,25 +1,19 @@
 -- Picture reading (request 2026-10): what the caller hears, the reader that the next call is given, and the slice that it lent.
 -- Definitions only.
-use Rattle.std.specs.Prelude.{ℕ, ◌+◌, Bool, true, ◌&&◌, cond, List, leb, ltb, eqb, length}
+use Rattle.std.specs.Prelude.{Option, Some, None, ℕ, ◌+◌, Bool, true, ◌&&◌, cond, List, leb, ltb, eqb, length}
 use Rattle.exact.specs.Outcome.{Outcome, accepted, refused, ◌and_then◌, require}
 use Rattle.systems.specs.declared.System.{System}
 use Rattle.systems.specs.Systems.{number}
-use Rattle.systems.specs.Refusals.{refusal}
 use Rattle.block.specs.declared.Header.{Header}
 use Rattle.block.specs.Read as block
 use Rattle.block.specs.Read.{width_ok, header_of}
 use Rattle.picture.specs.Picture.{height_ok}
 use Rattle.reader.specs.declared.Format.{Format}
-use Rattle.reader.specs.declared.Format.TheVariants.{Unknown, Of}
 use Rattle.reader.specs.declared.Progress.{Progress}
 use Rattle.reader.specs.declared.Phase.{Phase}
 use Rattle.reader.specs.declared.Phase.TheVariants.{Unopened, Reading, Complete}
 use Rattle.reader.specs.declared.Reader.{Reader}
-use Rattle.reader.specs.declared.Change.{Change}
-use Rattle.reader.specs.declared.Change.TheVariants as change
 use Rattle.reader.specs.declared.Taken.{Taken}
-use Rattle.reader.specs.declared.RowRead.{RowRead}
-use Rattle.reader.specs.declared.RowRead.TheVariants as answer
 
 -- the reader at a phase
 abbrev pub at : Phase → Reader
@@ -27,16 +21,16 @@ at f = record { phase = f }
 
 -- opening, in any phase: it starts at row 0, and the first block is to give the format
 abbrev pub opening : Reader → ℕ → Outcome Reader
-opening r h = require (height_ok h) 3 (accepted (at (Reading (record { height = h; next = 0; format = Unknown }))))
+opening r h = require (height_ok h) 3 (accepted (at (Reading (record { height = h; next = 0; format = None }))))
 
 -- a system and count like those of the first block, if there was one
-abbrev pub alike : Format → System → ℕ → Bool
-alike Unknown y w = true
-alike (Of z v) y w = eqb (number y) (number z) && eqb w v
+abbrev pub alike : Option Format → System → ℕ → Bool
+alike None y w = true
+alike (Some f) y w = eqb (number y) (number f.system) && eqb w f.width
 
 -- after the next row, of this system and width: complete after height rows
 abbrev pub after : Progress → System → ℕ → Phase
-after p y w = cond (eqb (p.next + 1) p.height) Complete (Reading (record { height = p.height; next = p.next + 1; format = Of y w }))
+after p y w = cond (eqb (p.next + 1) p.height) Complete (Reading (record { height = p.height; next = p.next + 1; format = Some (record { system = y; width = w }) }))
 
 -- a row of this system, number and width: 34 where it is not the next one, then 35
 unfoldable pub in_turn : Progress → System → ℕ → ℕ → Outcome Reader
@@ -64,9 +58,9 @@ abbrev pub slice_after : Reader → List ℕ → List ℕ → List ℕ
 slice_after r bs slice = block.slice_by (heard_of (taking r bs (length slice))) bs slice
 
 -- a format goes with so many rows: none before the first
-abbrev pub known : Format → ℕ → Bool
-known Unknown n = eqb n 0
-known (Of y w) n = leb 1 n && width_ok w
+abbrev pub known : Option Format → ℕ → Bool
+known None n = eqb n 0
+known (Some f) n = leb 1 n && width_ok f.width
 
 -- a reading that calls can make
 unfoldable pub proper : Progress → Bool
@@ -77,12 +71,3 @@ abbrev pub resumed : Phase → Phase
 resumed Unopened = Unopened
 resumed (Reading p) = cond (proper p) (Reading p) Unopened
 resumed Complete = Complete
-
--- what the answers say
-abbrev pub reader_outcome : Change → Outcome Reader
-reader_outcome (change.To r) = accepted r
-reader_outcome (change.Refused r) = refused (refusal r)
-
-abbrev pub taken_outcome : RowRead → Outcome Taken
-taken_outcome (answer.Row t) = accepted t
-taken_outcome (answer.Refused r) = refused (refusal r)

@@ -2,30 +2,31 @@
 // every list of these calls, and of a picture that was written and is read here.
 #![tactic(auto)]
 
-ghost use Rattle.std.specs.Prelude.{◌≡◌, ◌&&◌, ◌≤◌, leb, length};
+ghost use Rattle.std.specs.Prelude.{◌≡◌, ◌≤◌, length};
 ghost use Rattle.exact.specs.Outcome.{accepted, refused};
-ghost use Rattle.systems.specs.Refusals.{refusal};
+ghost use Rattle.systems.specs.Refusals.{refusal, outcome};
 ghost use Rattle.block.specs.Read.{walk, header_of};
 ghost use Rattle.reader.specs.declared.Phase.TheVariants.{Unopened};
-ghost use Rattle.reader.specs.Reader.{at, alike, after, in_turn, opening, taking, slice_after, known, proper, resumed, reader_outcome, taken_outcome};
-ghost use Rattle.reader.specs.Inner.{before_turn, turn_from, turn_of};
+ghost use Rattle.reader.specs.Reader.{at, after, in_turn, opening, taking, slice_after, known, proper, resumed};
+ghost use Rattle.reader.specs.Inner.{before_turn, turn_of};
 
-use block::{BlockRead, Header, Judged, Judgement, all_in, read_block, walk};
+use block::{Header, Judged, all_in, read_block, walk};
+use picture::is_size;
 use systems::{MOST_ROWS, MOST_SAMPLES, Refusal, System};
 
-// The system and width of the picture's rows, from the first accepted one on.
-#[derive(Clone, Copy)]
-pub enum Format {
-    Unknown,
-    Of(System, u16),
+// The system and width of a picture's rows.
+#[derive(Clone, Copy, PartialEq, Eq)]
+pub struct Format {
+    pub system: System,
+    pub width: u16,
 }
 
-// What a reader was opened with, the number of the next row, and the format.
+// What a reader was opened with, the number of the next row, and the format, from the first accepted one on.
 #[derive(Clone, Copy)]
 pub struct Progress {
     pub height: u16,
     pub next: u16,
-    pub format: Format,
+    pub format: Option<Format>,
 }
 
 #[derive(Clone, Copy)]
@@ -40,24 +41,11 @@ pub struct Reader {
     phase: Phase,
 }
 
-// What a call makes of a reader. A refused reader stays as it was.
-#[derive(Clone, Copy)]
-pub enum Change {
-    To(Reader),
-    Refused(Refusal),
-}
-
 // What reading the block gives, and the reader after it.
 #[derive(Clone, Copy)]
 pub struct Taken {
     pub header: Header,
     pub reader: Reader,
-}
-
-#[derive(Clone, Copy)]
-pub enum RowRead {
-    Row(Taken),
-    Refused(Refusal),
 }
 
 impl Reader {
@@ -73,8 +61,9 @@ impl Reader {
     pub fn resume(phase: Phase) -> Reader
         ensures { result ≡ at (resumed phase) }
     {
-        Reader {
-            phase: resumed(phase),
+        match phase {
+            Phase::Reading(p) if !p.is_proper() => Reader::new(),
+            _ => Reader { phase },
         }
     }
 
@@ -85,80 +74,94 @@ impl Reader {
     }
 
     // Starts anew at row 0, in any phase. Refused: 3.
-    pub fn open(self, height: u32) -> Change
-        ensures { reader_outcome result ≡ opening self height }
+    pub fn open(self, height: u32) -> Result<Reader, Refusal>
+        ensures { outcome result ≡ opening self height }
     {
         if !is_size(height, MOST_ROWS) {
-            return Change::Refused(Refusal::Height);
+            return Err(Refusal::Height);
         }
-        let height = height as u16;
-        Change::To(Reader {
+        Ok(Reader {
             phase: Phase::Reading(Progress {
-                height,
+                height: height as u16,
                 next: 0,
-                format: Format::Unknown,
+                format: None,
             }),
         })
     }
 
     // Reads a block as read_block does, where it is the next row. Refused: 36; then as in reading, with 5; then 34, 35.
-    pub fn read(self, bytes: &[u8], codes: &mut [u16]) -> RowRead
-        ensures result_value { taken_outcome result ≡ taking self bytes.now (length codes.old) }
+    #[tactic(auto, using(crate::proofs::Turns::row_read, crate::proofs::Turns::next_row, crate::proofs::Turns::no_turn))]
+    pub fn read(self, bytes: &[u8], codes: &mut [u16]) -> Result<Taken, Refusal>
+        ensures result_value { outcome result ≡ taking self bytes.now (length codes.old) }
         ensures codes_after { codes.new ≡ slice_after self bytes.now codes.old }
     {
-        match self.turn(bytes, codes.len()) {
-            Change::To(reader) => match read_block(bytes, codes) {
-                BlockRead::Row(header) => RowRead::Row(Taken { header, reader }),
-                BlockRead::Refused(r) => RowRead::Refused(r),
-            },
-            Change::Refused(r) => RowRead::Refused(r),
-        }
+        let reader = self.turn(bytes, codes.len())?;
+        let header = read_block(bytes, codes)?;
+        Ok(Taken { header, reader })
     }
 
     // The reader after a block, if reading accepts it into so many places. Whoever reads the block by itself asks this before. Refused
     // is what read refuses; only the words and the room of the next row are not tested yet.
-    pub fn turn(self, bytes: &[u8], room: usize) -> Change
-        ensures { reader_outcome result ≡ turn_of self bytes.now room }
+    #[tactic(auto, using(block::proofs::Walking::walk_accepted), unfolding(crate::specs::Inner::turn_from))]
+    pub fn turn(self, bytes: &[u8], room: usize) -> Result<Reader, Refusal>
+        ensures { outcome result ≡ turn_of self bytes.now room }
     {
-        let phase = self.phase;
-        match phase {
-            Phase::Unopened => Change::Refused(Refusal::NotReading),
-            Phase::Reading(p) => turn_from(p, bytes, room),
-            Phase::Complete => Change::Refused(Refusal::NotReading),
+        let Phase::Reading(p) = self.phase else {
+            return Err(Refusal::NotReading);
+        };
+        let b = walk(bytes)?;
+        p.in_turn(b)
+            .map_err(|turn| before_turn(b, bytes, room, turn))
+    }
+}
+
+impl Progress {
+    // Whether calls can make it.
+    #[tactic(auto, unfolding(crate::specs::Reader::proper))]
+    fn is_proper(self) -> bool
+        ensures { result ≡ proper self }
+    {
+        is_size(u32::from(self.height), MOST_ROWS)
+            && self.next < self.height
+            && is_known(self.format, self.next)
+    }
+
+    // The reader after a row, where it is the next one and like the first.
+    #[tactic(auto, unfolding(crate::specs::Reader::in_turn))]
+    fn in_turn(self, b: Judged) -> Result<Reader, Refusal>
+        requires { b.row ≤ 4319 }
+        ensures { outcome result ≡ in_turn self b.system b.row b.samples }
+    {
+        if b.row != self.next {
+            return Err(Refusal::Turn);
         }
+        let format = Format {
+            system: b.system,
+            width: b.samples,
+        };
+        if self.format.is_some_and(|first| first != format) {
+            return Err(Refusal::Unlike);
+        }
+        Ok(Reader {
+            phase: self.after(format),
+        })
     }
-}
 
-#[tactic(auto, using(block::proofs::Walking::walk_accepted), unfolding(crate::specs::Inner::turn_from))]
-fn turn_from(p: Progress, bytes: &[u8], room: usize) -> Change
-    ensures { reader_outcome result ≡ turn_from p bytes.now room }
-{
-    match walk(bytes) {
-        Judgement::Block(b) => match in_turn(p, b) {
-            Change::To(reader) => Change::To(reader),
-            Change::Refused(r) => Change::Refused(before_turn(b, bytes, room, r)),
-        },
-        Judgement::Refused(r) => Change::Refused(r),
+    // The phase after the next row.
+    fn after(self, format: Format) -> Phase
+        requires { self.next ≤ 4319 }
+        ensures { result ≡ after self format.system format.width }
+    {
+        let next = self.next + 1;
+        if next == self.height {
+            return Phase::Complete;
+        }
+        Phase::Reading(Progress {
+            next,
+            format: Some(format),
+            ..self
+        })
     }
-}
-
-// The reader after a row, where it is the next one and like the first.
-#[tactic(auto, unfolding(crate::specs::Reader::in_turn))]
-fn in_turn(p: Progress, b: Judged) -> Change
-    requires { b.row ≤ 4319 }
-    ensures { reader_outcome result ≡ in_turn p b.system b.row b.samples }
-{
-    let system = b.system;
-    let format = p.format;
-    if b.row != p.next {
-        return Change::Refused(Refusal::Turn);
-    }
-    if !alike(format, system, b.samples) {
-        return Change::Refused(Refusal::Unlike);
-    }
-    Change::To(Reader {
-        phase: after(p, system, b.samples),
-    })
 }
 
 // The words and the room of a walked block are tested before its turn refuses it.
@@ -167,76 +170,18 @@ fn before_turn(b: Judged, bytes: &[u8], room: usize, turn: Refusal) -> Refusal
     requires { walk bytes.now ≡ accepted b }
     ensures { refused (refusal result) ≡ before_turn (header_of bytes.now room) (refusal turn) }
 {
-    let system = b.system;
-    if !all_in(system.video_data(), bytes, b.samples) {
+    if !all_in(b.system.video_data(), bytes, b.samples) {
         return Refusal::Code;
     }
     if b.fits(room) { turn } else { Refusal::Output }
 }
 
-fn alike(format: Format, system: System, samples: u16) -> bool
-    ensures { result ≡ alike format system samples }
-{
-    match format {
-        Format::Unknown => true,
-        Format::Of(first, width) => (system.number() == first.number()) & (samples == width),
-    }
-}
-
-// The phase after the next row.
-fn after(p: Progress, system: System, samples: u16) -> Phase
-    requires { p.next ≤ 4319 }
-    ensures { result ≡ after p system samples }
-{
-    let next = p.next + 1;
-    if next == p.height {
-        return Phase::Complete;
-    }
-    Phase::Reading(Progress {
-        height: p.height,
-        next,
-        format: Format::Of(system, samples),
-    })
-}
-
-fn resumed(phase: Phase) -> Phase
-    ensures { result ≡ resumed phase }
-{
-    match phase {
-        Phase::Unopened => Phase::Unopened,
-        Phase::Reading(p) => {
-            if is_proper(p) {
-                Phase::Reading(p)
-            } else {
-                Phase::Unopened
-            }
-        }
-        Phase::Complete => Phase::Complete,
-    }
-}
-
-// Whether calls can make it.
-#[tactic(auto, unfolding(crate::specs::Reader::proper))]
-fn is_proper(p: Progress) -> bool
-    ensures { result ≡ proper p }
-{
-    let format = p.format;
-    is_size(p.height as u32, MOST_ROWS) & (p.next < p.height) & is_known(format, p.next)
-}
-
 // Whether so many rows leave the format so.
-fn is_known(format: Format, next: u16) -> bool
+fn is_known(format: Option<Format>, next: u16) -> bool
     ensures { result ≡ known format next }
 {
     match format {
-        Format::Unknown => next == 0,
-        Format::Of(_, width) => (1 <= next) & is_size(width as u32, MOST_SAMPLES),
+        None => next == 0,
+        Some(f) => 1 <= next && is_size(u32::from(f.width), MOST_SAMPLES),
     }
-}
-
-// From 1 to the most that there may be.
-fn is_size(size: u32, most: u16) -> bool
-    ensures { result ≡ (leb 1 size && leb size most) }
-{
-    (1 <= size) & (size <= most as u32)
 }

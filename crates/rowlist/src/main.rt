@@ -3,7 +3,10 @@
 #![tactic(auto)]
 
 use std::io;
+use std::io::{BufWriter, Write};
 
 fn main(rt: HostRuntime) -> io::Result<()> {
-    listing::list(&mut rt.stdin(), &mut rt.stdout())
+    let mut output = BufWriter::new(rt.alloc(), rt.stdout())?;
+    listing::list(&mut rt.stdin(), &mut output)?;
+    output.flush()
 }

@@ -1,10 +1,7 @@
 -- Segmented-frame order (request 2026-01): the 1080 rows of a progressive picture in rising total line, and back.
 -- Definitions only.
 use Rattle.std.specs.Prelude.{ℕ, zero, suc, ◌+◌, ◌*◌, ◌-◌, ◌/◌, ◌%◌, Bool, cond, not, ◌&&◌, List, [], ◌++◌, eqb, ltb, length, take, drop}
-use Rattle.exact.specs.Outcome.{Outcome, accepted, refused, require}
-use Rattle.systems.specs.Refusals.{refusal}
-use Rattle.segmented.specs.declared.Moved.{Moved}
-use Rattle.segmented.specs.declared.Moved.TheVariants as moved
+use Rattle.exact.specs.Outcome.{Outcome, accepted, require}
 use Rattle.segmented.specs.declared.Order.{Order}
 use Rattle.segmented.specs.declared.Order.TheVariants as order
 
@@ -49,8 +46,3 @@ move_outcome from to = require (can_move from to) 31 (accepted tt)
 -- the second buffer after a call
 abbrev pub buffer_after : Order → List ℕ → List ℕ → List ℕ
 buffer_after o bs out = cond (can_move (length bs) (length out)) (reordered o bs) out
-
--- what the answer says
-abbrev pub moved_outcome : Moved → Outcome (Unit {0})
-moved_outcome moved.Done = accepted tt
-moved_outcome (moved.Refused r) = refused (refusal r)

@@ -6,9 +6,7 @@ use lib.Ieee.{Float, nan, inf, fin, up, down, le, is_nan}
 use lib.Ieee.Fits.{up_pos, down_pos}
 use lib.Ieee.Positive.{num, den}
 use borrow.Author.Tests.{lt-leb}
-use Rattle.exact.proofs.Boolean.{holds, each_of_three}
-use Rattle.signals.specs.declared.Signals.{Signals}
-use Rattle.signals.specs.Signals.{in_unit, all_in_unit}
+use Rattle.signals.specs.Signals.{in_unit}
 
 below_or_equal : (a b : ℕ) → (ltb a b || (eqb a b && true)) ≡ leb a b
 below_or_equal a b = go (ltb a b) (ltb-true a b) (ltb-false a b)
@@ -52,9 +50,3 @@ unit_at_most_one nan t = absurd t
 unit_at_most_one (inf s) t = absurd t
 unit_at_most_one (fin true m e) t = rw (eqb→eq m 0 t, zero-mul) zero-le
 unit_at_most_one (fin false m e) t = leb→le (m * up e) (down e) t
-
--- what passes of a triple passes of each
-pub each_in_unit : (e : Signals) → all_in_unit e ≡ true → T (in_unit e.r) × T (in_unit e.g) × T (in_unit e.b)
-each_in_unit e h =
-    let t = each_of_three (in_unit e.r) (in_unit e.g) (in_unit e.b) h in
-    (holds t.0, holds t.1, holds t.2)

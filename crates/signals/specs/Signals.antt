@@ -5,15 +5,10 @@ use Rattle.std.specs.Float.{nan, inf, fin, binary32}
 use Rattle.std.specs.Float.Ieee.{up, down, round}
 use Rattle.std.specs.Float.Ieee.Positive.{num, den}
 use Rattle.exact.specs.Whole.{INT}
-use Rattle.exact.specs.Outcome.{Outcome, accepted, refused, ◌and_then◌, require}
-use Rattle.systems.specs.Refusals.{refusal}
+use Rattle.exact.specs.Outcome.{Outcome, accepted, ◌and_then◌, require}
 use Rattle.systems.specs.Systems.{scale, nominal, all_within, named}
 use Rattle.systems.specs.declared.System.{System}
 use Rattle.systems.specs.declared.Codes.{Codes}
-use Rattle.signals.specs.declared.Quantised.{Quantised}
-use Rattle.signals.specs.declared.Quantised.TheVariants as to_codes
-use Rattle.signals.specs.declared.Restored.{Restored}
-use Rattle.signals.specs.declared.Restored.TheVariants as to-signals
 use Rattle.signals.specs.declared.Signals.{Signals}
 
 -- E' is a number from 0 to 1; negative zero is zero
@@ -47,13 +42,3 @@ signals_at s d = record { r = nearest s d.r; g = nearest s d.g; b = nearest s d.
 -- the way back from a triple of codes in the system that n names, or refusal 1 or 6
 abbrev pub code_signals : ℕ → Codes → Outcome Signals
 code_signals n d = named n and_then λ (y : System). require (all_within (nominal y) d) 6 (accepted (signals_at (scale y) d))
-
--- what a `Quantised` says
-abbrev pub quantised_outcome : Quantised → Outcome Codes
-quantised_outcome (to_codes.Codes d) = accepted d
-quantised_outcome (to_codes.Refused f) = refused (refusal f)
-
--- what a `Restored` says
-abbrev pub restored_outcome : Restored → Outcome Signals
-restored_outcome (to-signals.Signals e) = accepted e
-restored_outcome (to-signals.Refused f) = refused (refusal f)

@@ -3,63 +3,41 @@
 
 ghost use Rattle.std.specs.Prelude.{◌≡◌, ◌*◌, ◌≤◌, T};
 ghost use Rattle.systems.specs.Systems.{scale};
-ghost use Rattle.signals.specs.Signals.{in_unit, all_in_unit, component, quantised_at, signal_codes, nearest, signals_at, code_signals, quantised_outcome, restored_outcome};
+ghost use Rattle.systems.specs.Refusals.{outcome};
+ghost use Rattle.signals.specs.Signals.{in_unit, all_in_unit, component, quantised_at, signal_codes, nearest, signals_at, code_signals};
 
-use systems::{Codes, Named, Refusal, System};
+use systems::{Codes, Refusal, System};
 
-// A triple of signals E', each from 0 to 1.
+// A triple of signals E', each from 0 to 1. Signals, codes, words and lights are types of their own: one generic triple would let a
+// light pass for a code.
 #[repr(C)]
-#[derive(Clone, Copy)]
+#[derive(Clone, Copy, PartialEq)]
 pub struct Signals {
     pub r: f32,
     pub g: f32,
     pub b: f32,
 }
 
-// The codes of a triple of signals.
-#[derive(Clone, Copy)]
-pub enum Quantised {
-    Codes(Codes),
-    Refused(Refusal),
-}
-
-// The signals of a triple of codes.
-#[derive(Clone, Copy)]
-pub enum Restored {
-    Signals(Signals),
-    Refused(Refusal),
-}
-
 // The code of each signal's exact value; refused with 1, then 7.
-pub fn codes_of_signals(system: u32, signals: Signals) -> Quantised
-    ensures { quantised_outcome result ≡ signal_codes system signals }
+pub fn codes_of_signals(system: u32, signals: Signals) -> Result<Codes, Refusal>
+    ensures { outcome result ≡ signal_codes system signals }
 {
-    match System::from_number(system) {
-        Named::Known(y) => {
-            if all_in_unit(signals) {
-                Quantised::Codes(codes_at(y, signals))
-            } else {
-                Quantised::Refused(Refusal::Signal)
-            }
-        }
-        Named::Unknown => Quantised::Refused(Refusal::System),
+    let y = System::try_from(system)?;
+    if !all_in_unit(signals) {
+        return Err(Refusal::Signal);
     }
+    Ok(codes_at(y, signals))
 }
 
 // The f32 nearest to each code's signal; refused with 1, then 6.
-pub fn signals_of_codes(system: u32, codes: Codes) -> Restored
-    ensures { restored_outcome result ≡ code_signals system codes }
+pub fn signals_of_codes(system: u32, codes: Codes) -> Result<Signals, Refusal>
+    ensures { outcome result ≡ code_signals system codes }
 {
-    match System::from_number(system) {
-        Named::Known(y) => {
-            if codes.all_in(y.nominal()) {
-                Restored::Signals(signals_at(y, codes))
-            } else {
-                Restored::Refused(Refusal::Code)
-            }
-        }
-        Named::Unknown => Restored::Refused(Refusal::System),
+    let y = System::try_from(system)?;
+    if !codes.all_in(y.nominal()) {
+        return Err(Refusal::Code);
     }
+    Ok(signals_at(y, codes))
 }
 
 // Both tests hold of negative zero, and neither of a NaN.

@@ -5,6 +5,7 @@ use mathlib.Core.Path.{◌≡◌, refl}
 use mathlib.Core.Bool.{Bool, true, false}
 use mathlib.Core.List.{List, [], ◌∷◌}
 use lib.Dec.{eqb}
+use Rattle.std.specs.Prelude.{Result, Ok, Err}
 use Rattle.exact.specs.Outcome.{Outcome, accepted, refused, ◌and_then◌, require}
 use Rattle.systems.specs.declared.System.{System}
 use Rattle.systems.specs.declared.System.TheVariants.{Bt709Bits8, Bt709Bits10, Bt2020Bits10, Bt2020Bits12}
@@ -16,6 +17,11 @@ use Rattle.systems.specs.Systems.{number, named, named_in}
 pub data Answerable {A : Type 0} : Outcome A → Type 0 where
   values : (a : A) → Answerable (accepted a)
   refusing : (r : Refusal) → Answerable (refused (numbers.refusal r))
+
+-- an answer that says an outcome
+pub answer_for : {A : Type 0} {o : Outcome A} → Answerable o → (r : Result A Refusal) × (numbers.outcome r ≡ o)
+answer_for (values a) = (Ok a, refl)
+answer_for (refusing r) = (Err r, refl)
 
 pub tested : {A : Type 0} {o : Outcome A} (t : Bool) (r : Refusal) → Answerable o → Answerable (require t (numbers.refusal r) o)
 tested true r o = o

@@ -9,7 +9,7 @@ use Rattle.exact.proofs.Boolean.{holds, each_of_three}
 use Rattle.systems.specs.declared.Codes.{Codes}
 use Rattle.systems.specs.declared.Range.{Range}
 use Rattle.systems.specs.declared.System.{System}
-use Rattle.systems.specs.Systems.{scale, nominal, within, all_within}
+use Rattle.systems.specs.Systems.{scale, within, all_within}
 
 -- a code that passes lies between the ends
 pub in_range_lem : (n : Range) (d : ℕ) → within n d ≡ true → (n.low ≤ d) × (d ≤ n.high)
@@ -28,6 +28,3 @@ all_in_range n d e =
 -- 16s to 235s
 abbrev pub Nominal : System → ℕ → Type 0
 Nominal y d = (16 * scale y ≤ d) × (d ≤ 235 * scale y)
-
-pub is_nominal : (y : System) (d : ℕ) → within (nominal y) d ≡ true → Nominal y d
-is_nominal y = in_range_lem (nominal y)

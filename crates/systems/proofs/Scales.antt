@@ -1,6 +1,6 @@
 -- What holds of every system's depth and scale.
 -- Assumes nothing.
-use Prim.Native.Nat.{ℕ, ◌*◌, ◌-◌, ◌^◌, ◌%◌, ◌≤◌, ◌<◌}
+use Prim.Native.Nat.{ℕ, ◌≤◌, ◌<◌}
 use mathlib.Core.Path.{◌≡◌, refl, ap, ◌∙◌}
 use mathlib.Core.Bool.{Bool, true, false}
 use mathlib.Core.List.{List, [], ◌∷◌}
@@ -10,33 +10,13 @@ use borrow.Author.Tests.{eqb-true, ne_eqb}
 use Rattle.exact.specs.Outcome.{Outcome, accepted, refused}
 use Rattle.systems.specs.declared.System.{System}
 use Rattle.systems.specs.declared.System.TheVariants.{Bt709Bits8, Bt709Bits10, Bt2020Bits10, Bt2020Bits12}
-use Rattle.systems.specs.Systems.{number, bits, scale, named, named_in}
-
-pub bits_range : (y : System) → (8 ≤ bits y) × (bits y ≤ 12)
-bits_range Bt709Bits8 = omega arith
-bits_range Bt709Bits10 = omega arith
-bits_range Bt2020Bits10 = omega arith
-bits_range Bt2020Bits12 = omega arith
-
--- a system's number is a byte
-pub number_small : (y : System) → number y < 256
-number_small Bt709Bits8 = omega arith
-number_small Bt709Bits10 = omega arith
-number_small Bt2020Bits10 = omega arith
-number_small Bt2020Bits12 = omega arith
+use Rattle.systems.specs.Systems.{number, scale, named, named_in}
 
 pub scale_range : (y : System) → (0 < scale y) × (scale y ≤ 16)
 scale_range Bt709Bits8 = omega arith
 scale_range Bt709Bits10 = omega arith
 scale_range Bt2020Bits10 = omega arith
 scale_range Bt2020Bits12 = omega arith
-
--- a one shifted left by n-8 in 16 bits
-pub scale_by_shift : (y : System) → 1 * 2 ^ (bits y - 8) % 65536 ≡ scale y
-scale_by_shift Bt709Bits8 = refl
-scale_by_shift Bt709Bits10 = refl
-scale_by_shift Bt2020Bits10 = refl
-scale_by_shift Bt2020Bits12 = refl
 
 -- a system's number names it
 pub named_number : (y : System) → named (number y) ≡ accepted y

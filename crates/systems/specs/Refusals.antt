@@ -1,6 +1,7 @@
 -- The refusals' numbers (document 01, 'What the caller hears').
 -- Definitions only.
-use Rattle.std.specs.Prelude.{ℕ}
+use Rattle.std.specs.Prelude.{ℕ, Result, Ok, Err}
+use Rattle.exact.specs.Outcome.{Outcome, accepted, refused}
 use Rattle.systems.specs.declared.refusal.Refusal.{Refusal}
 use Rattle.systems.specs.declared.refusal.Refusal.TheVariants.{System, Width, Height, Lights, Output, Code, Signal, BlockEnd, Count, RowNumber, BytesAfter, AlreadyOpen, NotOpen, AllRows, RowsMissing, Length, Target, Timing, Turn, Unlike, NotReading}
 
@@ -26,3 +27,8 @@ refusal Timing = 33
 refusal Turn = 34
 refusal Unlike = 35
 refusal NotReading = 36
+
+-- what an answer says: its values, or its refusal's number
+abbrev pub outcome : {A : Type 0} → Result A Refusal → Outcome A
+outcome (Ok values) = accepted values
+outcome (Err r) = refused (refusal r)

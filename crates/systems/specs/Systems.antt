@@ -1,14 +1,14 @@
 -- The four systems and their constants (document 01, 'Four systems'), and the weights (document 01, 'Triples'). docs/CONVERSION.md
 -- retells document 01.
 -- Definitions only.
-use Rattle.std.specs.Prelude.{ℕ, ◌*◌, ◌-◌, ◌^◌, Bool, true, false, ◌&&◌, ◌||◌, List, [], ◌∷◌, leb, ltb, eqb}
+use Rattle.std.specs.Prelude.{◌≡◌, Result, ℕ, ◌*◌, ◌-◌, ◌^◌, Bool, true, false, ◌&&◌, ◌||◌, List, [], ◌∷◌, leb, ltb, eqb}
 use Rattle.exact.specs.Outcome.{Outcome, accepted, refused}
+use Rattle.systems.specs.Refusals.{outcome}
+use Rattle.systems.specs.declared.refusal.Refusal.{Refusal}
 use Rattle.systems.specs.declared.System.{System}
 use Rattle.systems.specs.declared.System.TheVariants.{Bt709Bits8, Bt709Bits10, Bt2020Bits10, Bt2020Bits12}
 use Rattle.systems.specs.declared.Matrix.{Matrix}
 use Rattle.systems.specs.declared.Matrix.TheVariants.{Bt709, Bt2020}
-use Rattle.systems.specs.declared.Named.{Named}
-use Rattle.systems.specs.declared.Named.TheVariants.{Known, Unknown}
 use Rattle.systems.specs.declared.Transfer.{Transfer}
 use Rattle.systems.specs.declared.Range.{Range}
 use Rattle.systems.specs.declared.Codes.{Codes}
@@ -94,7 +94,6 @@ named_in (y ∷ ys) n = elim (eqb n (number y)) [ true ↦ accepted y | false �
 abbrev pub named : ℕ → Outcome System
 named = named_in (Bt709Bits8 ∷ Bt709Bits10 ∷ Bt2020Bits10 ∷ Bt2020Bits12 ∷ [])
 
--- what a `Named` says
-abbrev pub found : Named → Outcome System
-found (Known y) = accepted y
-found Unknown = refused 1
+-- a number's system, or the refusal, as `named` says
+abbrev pub Names : ℕ → Result System Refusal → Type 0
+Names n r = outcome r ≡ named n

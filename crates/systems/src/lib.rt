@@ -5,40 +5,33 @@
 mod refusal;
 
 ghost use Rattle.std.specs.Prelude.{◌≡◌, pos};
-ghost use Rattle.systems.specs.Systems.{number, matrix, bits, scale, transfer, middle, nominal, nominal_difference, video_data, within, all_within, kr, kg, kb, named, found};
+ghost use Rattle.systems.specs.Systems.{number, matrix, bits, scale, transfer, middle, nominal, nominal_difference, video_data, within, all_within, kr, kg, kb, Names};
 ghost use Rattle.systems.specs.Inner.{bits_of};
 
 pub use refusal::Refusal;
 
 // A Recommendation's matrix.
-#[derive(Clone, Copy)]
+#[derive(Clone, Copy, PartialEq, Eq)]
 pub enum Matrix {
     Bt709,
     Bt2020,
 }
 
 // A bit depth.
-#[derive(Clone, Copy)]
+#[derive(Clone, Copy, PartialEq, Eq)]
 pub enum Depth {
-    Bits8,
-    Bits10,
-    Bits12,
+    Bits8 = 8,
+    Bits10 = 10,
+    Bits12 = 12,
 }
 
-// A Recommendation at a bit depth.
-#[derive(Clone, Copy)]
+// A Recommendation at a bit depth, with its number.
+#[derive(Clone, Copy, PartialEq, Eq)]
 pub enum System {
-    Bt709Bits8,
-    Bt709Bits10,
-    Bt2020Bits10,
-    Bt2020Bits12,
-}
-
-// The system that a number names.
-#[derive(Clone, Copy)]
-pub enum Named {
-    Known(System),
-    Unknown,
+    Bt709Bits8 = 1,
+    Bt709Bits10 = 2,
+    Bt2020Bits10 = 3,
+    Bt2020Bits12 = 4,
 }
 
 // α and β of the transfer function, in ten-thousandths.
@@ -49,7 +42,7 @@ pub struct Transfer {
 }
 
 // The codes from low to high, both included.
-#[derive(Clone, Copy)]
+#[derive(Clone, Copy, PartialEq, Eq)]
 pub struct Range {
     pub low: u16,
     pub high: u16,
@@ -57,7 +50,7 @@ pub struct Range {
 
 // R', G' and B' codes of a sample.
 #[repr(C)]
-#[derive(Clone, Copy)]
+#[derive(Clone, Copy, PartialEq, Eq)]
 pub struct Codes {
     pub r: u16,
     pub g: u16,
@@ -144,36 +137,32 @@ impl Depth {
     pub fn bits(self) -> u32
         ensures { result ≡ bits_of self }
     {
-        match self {
-            Depth::Bits8 => 8,
-            Depth::Bits10 => 10,
-            Depth::Bits12 => 12,
+        self as u32
+    }
+}
+
+// The system that a number names.
+impl TryFrom<u32> for System {
+    type Error = Refusal;
+
+    ghost try_from_gives = { Names };
+
+    fn try_from(number: u32) -> Result<System, Refusal> {
+        match number {
+            1 => Ok(System::Bt709Bits8),
+            2 => Ok(System::Bt709Bits10),
+            3 => Ok(System::Bt2020Bits10),
+            4 => Ok(System::Bt2020Bits12),
+            _ => Err(Refusal::System),
         }
     }
 }
 
 impl System {
-    pub fn from_number(number: u32) -> Named
-        ensures { found result ≡ named number }
-    {
-        match number {
-            1 => Named::Known(System::Bt709Bits8),
-            2 => Named::Known(System::Bt709Bits10),
-            3 => Named::Known(System::Bt2020Bits10),
-            4 => Named::Known(System::Bt2020Bits12),
-            _ => Named::Unknown,
-        }
-    }
-
     pub fn number(self) -> u32
         ensures { result ≡ number self }
     {
-        match self {
-            System::Bt709Bits8 => 1,
-            System::Bt709Bits10 => 2,
-            System::Bt2020Bits10 => 3,
-            System::Bt2020Bits12 => 4,
-        }
+        self as u32
     }
 
     pub fn matrix(self) -> Matrix

@@ -1,24 +1,26 @@
 // The boundary lights at 10 bits: entry j is the least light whose code is at least 16s + j + 1 (document 01, 'Light to
-// code'). The curve's rule is proved of every entry here, once; a caller makes the table once and lends it to each lookup.
+// code'). The curve's rule is proved of every entry here, once.
 #![tactic(auto)]
 
 mod table;
 
-ghost use Rattle.curve.specs.Inner.{BoundariesAt, IndexAt};
-
+use curve::Thresholds;
 pub use table::INDEX;
 
-// A light shifted right by this has its place in the index.
-pub const SHIFT: u32 = 5;
+pub struct Bits10;
 
-pub fn boundaries() -> [u16; 876]
-    ensures { BoundariesAt 10 result }
-{
-    table::BOUNDARIES
-}
+impl Thresholds for Bits10 {
+    ghost bits = { 10 };
 
-pub fn index() -> [u16; 2048]
-    ensures { IndexAt 10 5 result }
-{
-    table::INDEX
+    ghost SHIFT = { 5 };
+
+    const SHIFT: u32 = 5;
+
+    fn boundaries() -> &'static [u16] {
+        &table::BOUNDARIES
+    }
+
+    fn index() -> &'static [u16] {
+        &table::INDEX
+    }
 }

@@ -1,24 +1,26 @@
 // The boundary lights at 12 bits: entry j is the least light whose code is at least 16s + j + 1 (document 01, 'Light to
-// code'). The curve's rule is proved of every entry here, once; a caller makes the table once and lends it to each lookup.
+// code'). The curve's rule is proved of every entry here, once.
 #![tactic(auto)]
 
 mod table;
 
-ghost use Rattle.curve.specs.Inner.{BoundariesAt, IndexAt};
-
+use curve::Thresholds;
 pub use table::INDEX;
 
-// A light shifted right by this has its place in the index.
-pub const SHIFT: u32 = 3;
+pub struct Bits12;
 
-pub fn boundaries() -> [u16; 3504]
-    ensures { BoundariesAt 12 result }
-{
-    table::BOUNDARIES
-}
+impl Thresholds for Bits12 {
+    ghost bits = { 12 };
 
-pub fn index() -> [u16; 8192]
-    ensures { IndexAt 12 3 result }
-{
-    table::INDEX
+    ghost SHIFT = { 3 };
+
+    const SHIFT: u32 = 3;
+
+    fn boundaries() -> &'static [u16] {
+        &table::BOUNDARIES
+    }
+
+    fn index() -> &'static [u16] {
+        &table::INDEX
+    }
 }

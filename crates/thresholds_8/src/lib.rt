@@ -1,22 +1,25 @@
 // The boundary lights at 8 bits: entry j is the least light whose code is at least 16s + j + 1 (document 01, 'Light to
-// code'). The curve's rule is proved of every entry here, once; a caller makes the table once and lends it to each lookup.
+// code'). The curve's rule is proved of every entry here, once.
 #![tactic(auto)]
 
 mod table;
 
-ghost use Rattle.curve.specs.Inner.{BoundariesAt, IndexAt};
+use curve::Thresholds;
 
-// A light shifted right by this has its place in the index.
-pub const SHIFT: u32 = 7;
+pub struct Bits8;
 
-pub fn boundaries() -> [u16; 219]
-    ensures { BoundariesAt 8 result }
-{
-    table::BOUNDARIES
-}
+impl Thresholds for Bits8 {
+    ghost bits = { 8 };
 
-pub fn index() -> [u16; 512]
-    ensures { IndexAt 8 7 result }
-{
-    table::INDEX
+    ghost SHIFT = { 7 };
+
+    const SHIFT: u32 = 7;
+
+    fn boundaries() -> &'static [u16] {
+        &table::BOUNDARIES
+    }
+
+    fn index() -> &'static [u16] {
+        &table::INDEX
+    }
 }

@@ -15,7 +15,7 @@ loop-i-init c = none_yet _ _ _
 pub put_triple-requires : goal.put_triple-requires
 put_triple-requires c =
     let a = c.args in
-    let small = unclipped_small _ _ (scale_range a.y).1 (c.requires.words _ c.loop-i-test.true) a.x in
+    let small = unclipped_small _ _ (scale_range a.system).1 (c.requires.words _ c.loop-i-test.true) a.matrix in
     let room = so_far_long _ _ _ _ _ c.requires.fits c.loop-i.invariant in
     (omega arith, omega arith, rw (c.unclipped_by.ensures, c.words_at-words.ensures) record { r = small.0; g = small.1; b = small.2 })
 
@@ -23,5 +23,5 @@ pub loop-i-preserved : goal.loop-i-preserved
 loop-i-preserved c =
     let a = c.args in
     let l = c.loop-i in
-    let here = c.unclipped_by.ensures ∙ ap (unclipped_at a.x (scale a.y)) c.words_at-words.ensures in
-    one_more (biased_row a.x (scale a.y) (sample_at a.bytes.now a.samples)) a.samples l.i a.codes.now l.codes _ _ c.requires.fits c.loop-i-test.true l.invariant (ap biased_triple here) c.put_triple.ensures
+    let here = c.unclipped_by.ensures ∙ ap (unclipped_at a.matrix (scale a.system)) c.words_at-words.ensures in
+    one_more (biased_row a.matrix (scale a.system) (sample_at a.bytes.now a.samples)) a.samples l.i a.codes.now l.codes _ _ c.requires.fits c.loop-i-test.true l.invariant (ap biased_triple here) c.put_triple.ensures

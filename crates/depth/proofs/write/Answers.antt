@@ -19,5 +19,5 @@ returns c =
     (c.put_byte.ensures ∙ ap (λ (x : ℕ). set c.args.out.now 0 x) c.number.ensures)
     c.put_field.ensures
     (section_in y z bs _ _ 3 5 n _ c.way_to-way.ensures refl c.put_section.ensures)
-    (section_in y z bs _ _ (5 + 2 * n) (7 + 2 * n) n _ c.way_to-way.ensures cb_word (rw c.cb_count.ensures at c.put_section-2.ensures))
-    (section_in y z bs _ _ (7 + 4 * n) (9 + 4 * n) n _ c.way_to-way.ensures cr_word (rw c.cr_count.ensures at c.put_section-3.ensures))
+    (section_in y z bs _ _ (5 + 2 * n) (7 + 2 * n) n _ c.way_to-way.ensures cb_word (rw (c.cb_count.ensures, c.from-n.ensures) at c.put_section-2.ensures))
+    (section_in y z bs _ _ (7 + 4 * n) (9 + 4 * n) n _ c.way_to-way.ensures cr_word (rw (c.cr_count.ensures, c.from-n.ensures) at c.put_section-3.ensures))

@@ -5,7 +5,7 @@ use lib.IntN.{ℤ, pos, nat_abs, ◌-ℤ◌, ◌*ℤ◌}
 use lib.Signed.{shr_z, ◌<ℤ◌}
 use Rattle.exact.specs.Signed.{rounded}
 use mir.Syntax.{w64}
-use mir.Val.{to_z, of_z}
+use mir.Val.{SFits, to_z, of_z}
 use mir.ValLaws.{to_z-of_z, to_z_pos}
 use borrow.Author.Rules.{sfits_of}
 use Rattle.exact.proofs.Difference.{pos_less, sub_pos}
@@ -26,77 +26,61 @@ bottom_is w p h =
     let own_read : to_z w64 (of_z w64 (pos (10000 - nat_abs w))) ≡ pos (10000 - nat_abs w) = reads_back (pos (10000 - nat_abs w)) (omega arith) in
     rw (own_is, own_read) (reads_back (pos (bottom w)) (omega arith))
 
-module _ (a : ℤ) (w : ℤ) (m : ℕ) (least : 500 ≤ nat_abs w) (most : nat_abs w ≤ 3000) (middle : m ≤ 2048) (reached : nat_abs a ≤ 2 ^ 26) where
+module _ (a w : ℤ) (m : ℕ) (h : (pos 0 <ℤ w) × (500 ≤ nat_abs w) × (nat_abs w ≤ 3000) × (m ≤ 2048) × (nat_abs a ≤ 2 ^ 26)) where
   above_read : to_z w64 (of_z w64 a) ≡ a
-  above_read = reads_back a (omega (arith, reached))
+  above_read = reads_back a (omega (arith, h.4))
 
   m_read : to_z w64 m ≡ pos m
-  m_read = to_z_pos w64 m (omega (arith, middle))
+  m_read = to_z_pos w64 m (omega (arith, h.3))
 
   m_unit_read : to_z w64 (m * unit) ≡ pos (m * unit)
-  m_unit_read = to_z_pos w64 (m * unit) (omega (arith, middle))
+  m_unit_read = to_z_pos w64 (m * unit) (omega (arith, h.3))
 
   start_read : to_z w64 (start m) ≡ pos (start m)
-  start_read = to_z_pos w64 (start m) (omega (arith, middle))
+  start_read = to_z_pos w64 (start m) (omega (arith, h.3))
 
   -- what the steps take off
   abbrev taken : ℤ
   taken = a *ℤ pos (fixed 224 (bottom w))
 
   taken_fits : nat_abs taken < 2 ^ 63
-  taken_fits = omega (arith, taken_small m (bottom w) middle (omega (arith, most)) (omega (arith, least)) (omega arith) a reached)
+  taken_fits = omega (arith, taken_small m (bottom w) h.3 (omega (arith, h.2)) (omega (arith, h.1)) (omega arith) a h.4)
 
   abbrev sum : ℤ
   sum = total m (bottom w) a
 
   sum_fits : nat_abs sum < 2 ^ 63
-  sum_fits = total_small m (bottom w) middle (omega (arith, most)) (omega (arith, least)) (omega arith) a reached
+  sum_fits = total_small m (bottom w) h.3 (omega (arith, h.2)) (omega (arith, h.1)) (omega arith) a h.4
 
   rounds : to_z w64 (of_z w64 (shr_z sum unit)) ≡ rounded (colour_difference a (nat_abs w) m)
-  rounds = shifted_reads_back sum unit sum_fits ∙ difference_rounds m (bottom w) middle (omega (arith, most)) (omega (arith, least)) (omega arith) a reached
+  rounds = shifted_reads_back sum unit sum_fits ∙ difference_rounds m (bottom w) h.3 (omega (arith, h.2)) (omega (arith, h.1)) (omega arith) a h.4
 
-step_read : (w r : ℤ) → pos 0 <ℤ w → nat_abs w ≤ 3000 → to_z w64 (of_z w64 r) ≡ r →
-    r ≡ pos (fixed 224 (nat_abs (to_z w64 (of_z w64 (pos 438 *ℤ to_z w64 (of_z w64 (pos 10000 -ℤ to_z w64 (of_z w64 w)))))))) →
-    to_z w64 (of_z w64 r) ≡ pos (fixed 224 (bottom w))
-step_read w r p h k e = k ∙ e ∙ (λ i. pos (fixed 224 (nat_abs (bottom_is w p h i))))
+  step_read : (r : ℤ) → SFits w64 r → r ≡ pos (fixed 224 (nat_abs (to_z w64 (of_z w64 (pos 438 *ℤ to_z w64 (of_z w64 (pos 10000 -ℤ to_z w64 (of_z w64 w)))))))) →
+      to_z w64 (of_z w64 r) ≡ pos (fixed 224 (bottom w))
+  step_read r f e = to_z-of_z w64 r f ∙ e ∙ (λ i. pos (fixed 224 (nat_abs (bottom_is w h.0 h.2 i))))
 
 pub overflow_mul-sum-2 : goal.overflow_mul-sum-2
 overflow_mul-sum-2 c =
     let a = c.args.above in
     let w = c.args.weight in
     let m = c.args.middle in
-    let p = c.requires.0 in
-    let l = c.requires.1 in
-    let h = c.requires.2 in
-    let d = c.requires.3 in
-    let k = c.requires.4 in
-    let step = step_read w c.fixed-step.result p h (to_z-of_z w64 _ (sfits_of c.fixed-step.type_inv)) c.fixed-step.ensures in
-    rw (above_read a w m l h d k, step) (fits_i64 (taken a w m l h d k) (taken_fits a w m l h d k))
+    let h = c.requires in
+    rw (above_read a w m h, step_read a w m h c.fixed-step.result (sfits_of c.fixed-step.type_inv) c.fixed-step.ensures) (fits_i64 (taken a w m h) (taken_fits a w m h))
 
 pub overflow_sub-sum : goal.overflow_sub-sum
 overflow_sub-sum c =
     let a = c.args.above in
     let w = c.args.weight in
     let m = c.args.middle in
-    let p = c.requires.0 in
-    let l = c.requires.1 in
-    let h = c.requires.2 in
-    let d = c.requires.3 in
-    let k = c.requires.4 in
-    let step = step_read w c.fixed-step.result p h (to_z-of_z w64 _ (sfits_of c.fixed-step.type_inv)) c.fixed-step.ensures in
-    rw (above_read a w m l h d k, step, m_read a w m l h d k, m_unit_read a w m l h d k, start_read a w m l h d k, reads_back (taken a w m l h d k) (taken_fits a w m l h d k))
-    (fits_i64 (sum a w m l h d k) (sum_fits a w m l h d k))
+    let h = c.requires in
+    rw (above_read a w m h, step_read a w m h c.fixed-step.result (sfits_of c.fixed-step.type_inv) c.fixed-step.ensures, m_read a w m h, m_unit_read a w m h, start_read a w m h, reads_back (taken a w m h) (taken_fits a w m h))
+    (fits_i64 (sum a w m h) (sum_fits a w m h))
 
 pub returns : goal.returns
 returns c =
     let a = c.args.above in
     let w = c.args.weight in
     let m = c.args.middle in
-    let p = c.requires.0 in
-    let l = c.requires.1 in
-    let h = c.requires.2 in
-    let d = c.requires.3 in
-    let k = c.requires.4 in
-    let step = step_read w c.fixed-step.result p h (to_z-of_z w64 _ (sfits_of c.fixed-step.type_inv)) c.fixed-step.ensures in
-    rw (above_read a w m l h d k, step, m_read a w m l h d k, m_unit_read a w m l h d k, start_read a w m l h d k, reads_back (taken a w m l h d k) (taken_fits a w m l h d k), reads_back (sum a w m l h d k) (sum_fits a w m l h d k))
-    (rounds a w m l h d k)
+    let h = c.requires in
+    rw (above_read a w m h, step_read a w m h c.fixed-step.result (sfits_of c.fixed-step.type_inv) c.fixed-step.ensures, m_read a w m h, m_unit_read a w m h, start_read a w m h, reads_back (taken a w m h) (taken_fits a w m h), reads_back (sum a w m h) (sum_fits a w m h))
+    (rounds a w m h)

@@ -1,7 +1,7 @@
 use mathlib.Core.Path.{◌≡◌, refl, sym, ap, ◌∙◌}
 use mathlib.Core.List.{List, [], ◌∷◌}
 use mathlib.Core.Logic.{inl, inr}
-use Prim.Native.Nat.{ℕ, ◌*◌, ◌≤◌}
+use Prim.Native.Nat.{◌*◌, ◌≤◌}
 use native.Mathlib.Omega.{arith}
 use lib.Dec.{lit<}
 use lib.IntN.{ℤ, pos, nat_abs}
@@ -19,15 +19,16 @@ use Rattle.systems.specs.declared.Matrix.{Matrix}
 use Rattle.systems.specs.declared.Weights.{Weights}
 use Rattle.systems.specs.Systems.{scale, kr, kg, kb}
 use Rattle.systems.proofs.Scales.{scale_range}
-use Rattle.matrix.specs.Inner.{Small, TwelveBitCodes, triple, dotted, encoding_rows, colour_difference}
+use Rattle.matrix.specs.declared.WideCodes.{WideCodes}
+use Rattle.matrix.specs.Inner.{Small, TwelveBitCodes, narrow, dotted, encoding_rows, colour_difference}
 use Rattle.matrix.specs.Triples.{weighted, luma, cb_of, cr_of}
 use Rattle.matrix.proofs.EncodingRows.{column, above, rows_give, rows_small, luma_small, above_small, difference_is}
 use Rattle.matrix.proofs.Weights.{row_of, weights_between}
 use Rattle.matrix.proofs.unlimited_by.Goals as goal
 
-module _ (x : Matrix) (c : List ℕ) (h : TwelveBitCodes (triple c)) where
+module _ (x : Matrix) (c : WideCodes) (h : TwelveBitCodes (narrow c)) where
   abbrev codes : Codes
-  codes = triple c
+  codes = narrow c
 
   abbrev multiplied : List ℤ
   multiplied = to_z w64 codes.r ∷ to_z w64 codes.g ∷ to_z w64 codes.b ∷ []
@@ -84,7 +85,7 @@ colour_difference-requires c =
     let k = weights_between x in
     let e = blue_read x c.args.c c.requires c.encoding_rows-m.result c.encoding_rows-m.ensures c.dot-2.result (sfits_of c.dot-2.type_inv) c.dot-2.ensures in
     rw ((weights_read x c.weights-w.result c.weights-w.ensures).0, e, c.middle-middle.ensures)
-    (is_positive _ (omega (arith, k.0.0)), k.0.0, k.0.1, omega (arith, scale_range c.args.y), above_small (triple c.args.c) c.requires x _ c.requires.b_high)
+    (is_positive _ (omega (arith, k.0.0)), k.0.0, k.0.1, omega (arith, scale_range c.args.y), above_small (narrow c.args.c) c.requires x _ c.requires.b_high)
 
 pub colour_difference-requires-2 : goal.colour_difference-requires-2
 colour_difference-requires-2 c =
@@ -92,13 +93,13 @@ colour_difference-requires-2 c =
     let k = weights_between x in
     let e = red_read x c.args.c c.requires c.encoding_rows-m.result c.encoding_rows-m.ensures c.dot-3.result (sfits_of c.dot-3.type_inv) c.dot-3.ensures in
     rw ((weights_read x c.weights-w.result c.weights-w.ensures).1, e, c.middle-middle.ensures)
-    (is_positive _ (omega (arith, k.1.0)), k.1.0, k.1.1, omega (arith, scale_range c.args.y), above_small (triple c.args.c) c.requires x _ c.requires.r_high)
+    (is_positive _ (omega (arith, k.1.0)), k.1.0, k.1.1, omega (arith, scale_range c.args.y), above_small (narrow c.args.c) c.requires x _ c.requires.r_high)
 
 pub returns : goal.returns
 unfolding INT
 returns c =
     let x = c.args.x in
-    let s = triple c.args.c in
+    let s = narrow c.args.c in
     let m = 128 * scale c.args.y in
     let w = weighted x s in
     let weights = weights_read x c.weights-w.result c.weights-w.ensures in

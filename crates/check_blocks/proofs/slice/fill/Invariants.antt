@@ -1,9 +1,6 @@
-use Rattle.std.proofs.Common.{◌-◌, length}
-use Rattle.check_blocks.proofs.Slices.{FilledTo}
+use Rattle.std.proofs.Common.{◌≡◌, ℕ, ◌<◌, get_or}
+use Rattle.check_blocks.specs.Cases.{before}
 use Rattle.check_blocks.proofs.slice.fill.Given as goal
 
 abbrev pub invariant-loop-i : goal.invariant-loop-i
-invariant-loop-i l = FilledTo l.fn.lent l.i l.lent
-
-abbrev pub decreases-loop-i : goal.decreases-loop-i
-decreases-loop-i l = length l.fn.lent - l.i
+invariant-loop-i l = (k : ℕ) → k < l.i → get_or l.lent k 0 ≡ before k

@@ -1,15 +1,11 @@
 use Rattle.std.proofs.Common.{arith}
-use Rattle.check_depths.proofs.Filling.{none_filled, same_long, one_filled, all_filled}
+use Rattle.std.proofs.lemmas.List.Edits.{fill_by_more}
+use Rattle.std.proofs.lemmas.List.FromFn.{fill_by_all}
+use Rattle.check_depths.specs.Cases.{before}
 use Rattle.check_depths.proofs.buffer.fill.Goals as goal
 
-pub loop-i-init : goal.loop-i-init
-loop-i-init c = none_filled _
-
-pub loop-i-smaller : goal.loop-i-smaller
-loop-i-smaller c = omega (arith, same_long c.loop-i.invariant)
-
 pub loop-i-preserved : goal.loop-i-preserved
-loop-i-preserved c = rw c.before-in-loop-i.ensures (one_filled c.loop-i.invariant c.loop-i-test.true)
+loop-i-preserved c = rw c.before-in-loop-i.ensures (fill_by_more before c.loop-i.lent c.loop-i.i 0 (omega arith) c.loop-i.invariant)
 
 pub returns : goal.returns
-returns c = all_filled c.loop-i.invariant c.loop-i-test.false
+returns c = fill_by_all before _ _ 0 (omega arith) (λ k l. c.loop-i.invariant k (omega arith))

@@ -1,13 +1,6 @@
-use Rattle.std.proofs.Common.{ap, ◌∙◌}
-use Rattle.check_records.proofs.Counting.{none_yet, one_more, all_counted}
-use Rattle.check_levels.specs.Cases.{level_met}
+use Rattle.std.proofs.Common.{rules}
+use Rattle.check_levels.specs.Cases.{level_at}
 use Rattle.check_levels.proofs.case.compare.Goals as goal
 
-pub loop-i-init : goal.loop-i-init
-loop-i-init c = none_yet _ _
-
-pub loop-i-preserved : goal.loop-i-preserved
-loop-i-preserved c = one_more c.loop-i.invariant c.loop-i-test.true (c.is_met.ensures ∙ ap (level_met c.args.call) c.case_at.ensures) c.with-tally.ensures
-
 pub returns : goal.returns
-returns c = all_counted c.loop-i.invariant _ c.loop-i-test.false c.ended.ensures
+returns g c = λ level gives. c.compare.ensures (level_at level c.args.records.now) (λ i told within post. search (rules, gives))

@@ -4,4 +4,4 @@ use Rattle.check_segmented.proofs.moving.moves.Goals as goal
 
 pub returns : goal.returns
 unfolding moves
-returns c = rw (c.is_due.ensures, c.begin_alike.ensures, c.call-answer.ensures.result_value, c.call-answer.ensures.to_after, length_after)
+returns c = rw (c.is_due.ensures, c.begin_alike.ensures, c.call-found.ensures.result_value, c.call-found.ensures.to_after, length_after)

@@ -1,11 +1,12 @@
-use Rattle.check_records.proofs.Counting.{none_yet, one_more, all_counted}
+use Rattle.std.proofs.Common.{◌*◌, ◌/◌, ◌≡◌, arith, rules}
+use Rattle.matrix.specs.declared.Encoding.TheVariants.{Plain}
+use Rattle.matrix.specs.Triples.{words_of_codes}
+use Rattle.check_triples.specs.Cases.{grid_at, grid_codes, grid_words, gives}
 use Rattle.check_triples.proofs.grid.compare.Goals as goal
 
-pub loop-i-init : goal.loop-i-init
-loop-i-init c = none_yet _ _
-
-pub loop-i-preserved : goal.loop-i-preserved
-loop-i-preserved c = one_more c.loop-i.invariant c.loop-i-test.true (rw (c.codes_at.ensures, c.words_at.ensures) at c.has_words.ensures) c.with-tally.ensures
-
+-- the record at place 3·i is that of triple i
 pub returns : goal.returns
-returns c = all_counted c.loop-i.invariant _ c.loop-i-test.false c.ended.ensures
+returns c = c.compare.ensures (grid_at c.args.records.now) (λ i told within post.
+    let third : 3 * i / 3 ≡ i = omega arith in
+    let met : told ≡ gives (words_of_codes 1 Plain (grid_codes (3 * i / 3))) (grid_words c.args.records.now (3 * i)) = search rules in
+    rw third at met)

@@ -1,4 +1,4 @@
-use Rattle.std.proofs.Common.{add-one, arith}
+use Rattle.std.proofs.Common.{add-one}
 use Rattle.check_values.specs.Vectors.{place_at, first_at, lights_to}
 use Rattle.check_values.proofs.lights.compare_lights.Goals as goal
 
@@ -11,5 +11,4 @@ loop-i-preserved c =
       counted = rw (add-one, c.compare_span-tally.ensures, c.span_at-span.ensures, l.counted, l.here, l.begins);
       here = rw add-one next;
       begins = rw (add-one, c.after-first.ensures, next, c.span_at-span.ensures);
-      within = omega arith;
     }

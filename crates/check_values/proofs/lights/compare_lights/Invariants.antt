@@ -1,4 +1,4 @@
-use Rattle.std.proofs.Common.{◌≡◌, ◌/◌, ◌-◌, ◌≤◌, length}
+use Rattle.std.proofs.Common.{◌≡◌}
 use Rattle.check_values.specs.Vectors.{place_at, first_at, lights_to}
 use Rattle.check_values.proofs.lights.compare_lights.Given as goal
 
@@ -7,8 +7,4 @@ invariant-loop-i l = record {
   counted : l.tally ≡ lights_to l.records l.i;
   here : l.place ≡ place_at l.i;
   begins : l.first ≡ first_at l.records l.i;
-  within : l.i ≤ length l.records / 4;
 }
-
-abbrev pub decreases-loop-i : goal.decreases-loop-i
-decreases-loop-i l = length l.records / 4 - l.i

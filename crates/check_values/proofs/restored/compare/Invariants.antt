@@ -1,4 +1,4 @@
-use Rattle.std.proofs.Common.{◌≡◌, ◌/◌, ◌-◌, ◌≤◌, length}
+use Rattle.std.proofs.Common.{◌≡◌}
 use Rattle.check_values.specs.Vectors.{place_at, restored_to}
 use Rattle.check_values.proofs.restored.compare.Given as goal
 
@@ -6,8 +6,4 @@ abbrev pub invariant-loop-i : goal.invariant-loop-i
 invariant-loop-i l = record {
   counted : l.tally ≡ restored_to l.records l.i;
   here : l.place ≡ place_at l.i;
-  within : l.i ≤ length l.records / 4;
 }
-
-abbrev pub decreases-loop-i : goal.decreases-loop-i
-decreases-loop-i l = length l.records / 4 - l.i

@@ -2,10 +2,10 @@ use Rattle.std.proofs.Common.{eq-eqb, ne_eqb}
 use Rattle.check_meters.specs.Reads.{after_read}
 use Rattle.check_meters.proofs.list.Play.with.Goals as goal
 
-pub returns-then-read-refusal : goal.returns-then-read-refusal
+pub returns-then-read-number : goal.returns-then-read-number
 unfolding after_read
-returns-then-read-refusal c = rw (c.with.ensures, c.made-made.ensures, eq-eqb _ _ c.if-read-refusal.true)
+returns-then-read-number c = rw (c.with-tally.ensures, c.made-met.ensures.met, c.made-met.ensures.meter_after, eq-eqb _ _ c.if-read-number.true)
 
-pub returns-else-read-refusal : goal.returns-else-read-refusal
+pub returns-else-read-number : goal.returns-else-read-number
 unfolding after_read
-returns-else-read-refusal c = rw (c.made-made.ensures, ne_eqb _ _ c.if-read-refusal.false)
+returns-else-read-number c = rw (c.made-met.ensures.meter_after, ne_eqb _ _ c.if-read-number.false)

@@ -2,10 +2,10 @@ use Rattle.std.proofs.Common.{eq-eqb, ne_eqb}
 use Rattle.check_readers.specs.Calls.{after_call}
 use Rattle.check_readers.proofs.list.Play.with.Goals as goal
 
-pub returns-then-call-refusal : goal.returns-then-call-refusal
+pub returns-then-call-number : goal.returns-then-call-number
 unfolding after_call
-returns-then-call-refusal c = rw (c.with.ensures, c.made-made.ensures, eq-eqb _ _ c.if-call-refusal.true)
+returns-then-call-number c = rw (c.with-tally.ensures, c.made-met.ensures.met, c.made-met.ensures.reader_after, eq-eqb _ _ c.if-call-number.true)
 
-pub returns-else-call-refusal : goal.returns-else-call-refusal
+pub returns-else-call-number : goal.returns-else-call-number
 unfolding after_call
-returns-else-call-refusal c = rw (c.made-made.ensures, ne_eqb _ _ c.if-call-refusal.false)
+returns-else-call-number c = rw (c.made-met.ensures.reader_after, ne_eqb _ _ c.if-call-number.false)

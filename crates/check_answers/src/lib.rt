@@ -1,0 +1,8 @@
+// What the programs that compare reading with data have in common: the answers that are due.
+#![tactic(auto)]
+
+mod answer;
+mod due;
+
+pub use answer::{Answer, number_of};
+pub use due::{Due, agrees};

@@ -7,7 +7,7 @@ ghost use Rattle.check_answers.specs.Answers.{number_of};
 use std::fmt;
 use systems::Refusal;
 
-// An answer by its number, as a line of a check names it.
+// An answer by its number, as a line of a check names it: a number of the data's, which our refusals' numbers are compared with.
 #[derive(Clone, Copy)]
 pub struct Answer(pub u32);
 

@@ -48,7 +48,8 @@ impl From<Header> for Due {
     }
 }
 
-// Whether reading gives the answer of this number, and this header where it accepts.
+// Whether reading gives the answer of this number, and this header where it accepts. The number is one of the data's, which our
+// refusals' numbers are compared with. It stands beside the header, since a refused case of the data has one too.
 pub fn agrees(answer: Result<Header, Refusal>, number: u32, due: Due) -> bool
     ensures { result ≡ agrees (outcome answer) number due }
 {

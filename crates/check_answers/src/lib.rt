@@ -3,6 +3,10 @@
 
 mod answer;
 mod due;
+mod part;
+mod print;
 
 pub use answer::{Answer, number_of};
 pub use due::{Due, agrees};
+pub use part::Part;
+pub use print::print_each;

@@ -6,7 +6,8 @@ use crate::slice;
 use check_answers::{Due, agrees};
 use check_records::{Tally, u16_at};
 
-// What stands before a case's block. The answer is a number of the data's, which our refusals' numbers are compared with.
+// What stands before a case's block. The answer is a number of the data's, which our refusals' numbers are compared with; values
+// stand beside it in a refused case too, which has a length and a count by which its size is known.
 #[derive(Clone, Copy)]
 struct Case {
     places: u16,
@@ -15,13 +16,14 @@ struct Case {
     due: Due,
 }
 
-// Compares the cases in which the answer of this number is due. A case that is cut off differs.
+// Compares the cases in which the answer of this number, one of the data's, is due. A case that is cut off differs.
 pub fn compare(cases: &[u8], number: u32) -> Tally
     ensures { CasesCompared cases.now number result }
 {
     let mut tally = Tally::NONE;
     let mut at = 0;
-    // No `for`: each case is as long as its own numbers say. Over a trait of cases, which check_depths could share, it would be longer.
+    // No `for`: each case is as long as its own numbers say. Over a trait of cases, which check_depths could share, it would be
+    // longer.
     while let Some(case) = Case::at(cases, at) {
         let size = case.size();
         tally = case.tallied(tally, &cases[at + 16..at + size], number);
@@ -31,7 +33,7 @@ pub fn compare(cases: &[u8], number: u32) -> Tally
 }
 
 impl Case {
-    // The case at a place, if it is there whole.
+    // The case at a place, if it is there whole. check_depths has such a function, of other numbers.
     fn at(cases: &[u8], at: usize) -> Option<Case>
         requires { at ≤ length cases.now }
         ensures { MatchOption result (length cases.now < at + size_at cases.now at) (λ case. (case ≡ case_at cases.now at) × (at + size_at cases.now at ≤ length cases.now)) }
@@ -58,7 +60,7 @@ impl Case {
         16 + self.length as usize + 6 * (self.due.samples as usize)
     }
 
-    // The case counts where the answer in question is due.
+    // The case counts where the answer in question is due. check_depths has the same of its cases, whose is_met is another.
     fn tallied(self, tally: Tally, bytes: &[u8], number: u32) -> Tally
         requires { self.length ≤ length bytes.now }
         ensures { result ≡ case_tallied self bytes.now number tally }
@@ -76,6 +78,7 @@ impl Case {
         requires { self.length ≤ length bytes.now }
         ensures { result ≡ met self bytes.now }
     {
+        // An array and no Vec: a Vec would make each function above answer for memory.
         let mut lent = [0; 65536];
         let (block, codes) = bytes.split_at(self.length as usize);
         self.is_answered(block, codes, &mut lent[..self.places as usize])

@@ -5,7 +5,7 @@
 mod cases;
 mod slice;
 
-use check_answers::Answer;
+use check_answers::print_each;
 use std::io;
 
 // The numbers of the answers that the cases have.
@@ -13,10 +13,9 @@ const ANSWERS: [u32; 8] = [0, 1, 5, 6, 8, 9, 10, 11];
 
 fn main(rt: HostRuntime) -> io::Result<()> {
     let cases = check_records::read(&rt, "cases", 524288);
-    for number in ANSWERS {
-        let check = format!(in rt.alloc(); "{}:", Answer(number))?;
-        cases::compare(&cases, number).print(&rt, &check)?;
-    }
+    print_each(&rt, "", &ANSWERS, "", |number| {
+        cases::compare(&cases, number)
+    })?;
     let clipped = check_records::read(&rt, "clipped", 524288);
     cases::compare(&clipped, 0).print(&rt, "accepted, clipped:")
 }

@@ -1,6 +1,6 @@
 -- The records of the files that reference/make_constants.py makes, and whether the conversion agrees with them.
 -- Definitions only.
-use Rattle.std.specs.Prelude.{ℕ, ◌+◌, ◌*◌, Bool, false, ◌&&◌, cond, List, eqb, Result, Ok, Err}
+use Rattle.std.specs.Prelude.{ℕ, ◌+◌, ◌*◌, Bool, false, ◌&&◌, List, eqb, Result, Ok, Err}
 use Rattle.exact.specs.Outcome.{Outcome, accepted, refused}
 use Rattle.matrix.specs.declared.Words.{Words}
 use Rattle.matrix.specs.declared.Clips.{Clips}
@@ -9,7 +9,7 @@ use Rattle.constant_luminance.specs.declared.Lights.{Lights}
 use Rattle.constant_luminance.specs.declared.RedBlue.{RedBlue}
 use Rattle.constant_luminance.specs.ConstantLuminance.{words_of_lights, codes_of_words}
 use Rattle.check_samples.specs.Samples.{words_in}
-use Rattle.check_records.specs.Records.{u16_at, u32_at}
+use Rattle.check_records.specs.Records.{due, u16_at, u32_at}
 use Rattle.check_constants.specs.declared.codes.Case.{Case as CodesCase}
 use Rattle.check_constants.specs.declared.words.Case.{Case as WordsCase}
 
@@ -24,12 +24,8 @@ codes_in bs i = record { r = u16_at bs i; b = u16_at bs (i + 2) }
 abbrev pub clips_in : List ℕ → ℕ → Clips
 clips_in bs i = record { low = u16_at bs i; high = u16_at bs (i + 2) }
 
--- what is due: the values of a record, or the number of the refusal where that is not 0
-abbrev pub due : {A : Type 0} → ℕ → A → Result A ℕ
-due n a = cond (eqb n 0) (Ok a) (Err n)
-
 -- a call's answer is the one that is due
-abbrev pub agrees : {A B : Type 0} → (A → B → Bool) → Outcome A → Result B ℕ → Bool
+abbrev pub agrees : {A : Type 0} → (A → A → Bool) → Outcome A → Result A ℕ → Bool
 agrees same (accepted a) (Ok b) = same a b
 agrees same (accepted a) (Err n) = false
 agrees same (refused m) (Ok b) = false
@@ -50,11 +46,11 @@ abbrev pub codes_case : List ℕ → ℕ → CodesCase
 codes_case bs i = record {
   system = u32_at bs i;
   words = words_in bs (i + 6);
-  due = due (u16_at bs (i + 4)) (codes_in bs (i + 12), clips_in bs (i + 16));
+  due = due (u16_at bs (i + 4)) (record { codes = codes_in bs (i + 12); clips = clips_in bs (i + 16) });
 }
 
-abbrev pub same_codes : Clipped → RedBlue × Clips → Bool
-same_codes d e = (eqb d.codes.r e.0.r && eqb d.codes.b e.0.b) && (eqb d.clips.low e.1.low && eqb d.clips.high e.1.high)
+abbrev pub same_codes : Clipped → Clipped → Bool
+same_codes d e = (eqb d.codes.r e.codes.r && eqb d.codes.b e.codes.b) && (eqb d.clips.low e.clips.low && eqb d.clips.high e.clips.high)
 
 abbrev pub codes_met : CodesCase → Bool
 codes_met c = agrees same_codes (codes_of_words c.system c.words) c.due

@@ -4,10 +4,10 @@ ghost use Rattle.check_records.specs.Records.{tally_of};
 ghost use Rattle.check_constants.specs.Cases.{codes_case, codes_met, codes_at};
 
 use crate::fields;
-use check_records::{Tally, u16_at, u32_at};
+use check_records::{Tally, due, u16_at, u32_at};
 use check_samples::words_at;
-use constant_luminance::{Clipped, RedBlue};
-use matrix::{Clips, Words};
+use constant_luminance::Clipped;
+use matrix::Words;
 use systems::Refusal;
 
 // One record: words, and R', B' and the clips that are due for them in a system, or the number of the refusal.
@@ -15,7 +15,7 @@ use systems::Refusal;
 struct Case {
     system: u32,
     words: Words,
-    due: Result<(RedBlue, Clips), u32>,
+    due: Result<Clipped, u32>,
 }
 
 // Compares the answer for each record with it.
@@ -29,17 +29,14 @@ fn case_at(records: &[u8], at: usize) -> Case
     requires { at + 20 ≤ length records.now }
     ensures { result ≡ codes_case records.now at }
 {
-    let due = match u16_at(records, at + 4) {
-        0 => Ok((
-            fields::codes(records, at + 12),
-            fields::clips(records, at + 16),
-        )),
-        refusal => Err(u32::from(refusal)),
+    let clipped = Clipped {
+        codes: fields::codes(records, at + 12),
+        clips: fields::clips(records, at + 16),
     };
     Case {
         system: u32_at(records, at),
         words: words_at(records, at + 6),
-        due,
+        due: due(u32::from(u16_at(records, at + 4)), clipped),
     }
 }
 
@@ -48,7 +45,6 @@ impl Case {
         ensures { result ≡ codes_met self }
     {
         let answer = constant_luminance::codes_of_words(self.system, self.words);
-        let found = answer.map(|clipped| (clipped.codes, clipped.clips));
-        found.map_err(Refusal::number) == self.due
+        answer.map_err(Refusal::number) == self.due
     }
 }

@@ -4,7 +4,7 @@ ghost use Rattle.check_records.specs.Records.{tally_of};
 ghost use Rattle.check_constants.specs.Cases.{words_case, words_met, words_at};
 
 use crate::fields;
-use check_records::{Tally, u16_at, u32_at};
+use check_records::{Tally, due, u16_at, u32_at};
 use check_samples::words_at;
 use constant_luminance::Lights;
 use matrix::Words;
@@ -29,14 +29,13 @@ fn case_at(records: &[u8], at: usize) -> Case
     requires { at + 18 ≤ length records.now }
     ensures { result ≡ words_case records.now at }
 {
-    let due = match u16_at(records, at + 4) {
-        0 => Ok(words_at(records, at + 12)),
-        refusal => Err(u32::from(refusal)),
-    };
     Case {
         system: u32_at(records, at),
         lights: fields::lights(records, at + 6),
-        due,
+        due: due(
+            u32::from(u16_at(records, at + 4)),
+            words_at(records, at + 12),
+        ),
     }
 }
 

@@ -6,7 +6,8 @@ use crate::buffer;
 use check_answers::number_of;
 use check_records::{Tally, begin_alike, u16_at, u32_at};
 
-// What stands before a case's block. The answer is a number of the data's, which our refusals' numbers are compared with.
+// What stands before a case's block. The answer is a number of the data's, which our refusals' numbers are compared with; values
+// stand beside it in a refused case too, which has two lengths by which its size is known.
 #[derive(Clone, Copy)]
 struct Case {
     target: u32,
@@ -16,13 +17,14 @@ struct Case {
     due: u16,
 }
 
-// Compares the cases in which the answer of this number is due. A case that is cut off differs.
+// Compares the cases in which the answer of this number, one of the data's, is due. A case that is cut off differs.
 pub fn compare(cases: &[u8], number: u32) -> Tally
     ensures { CasesCompared cases.now number result }
 {
     let mut tally = Tally::NONE;
     let mut at = 0;
-    // No `for`: each case is as long as its own numbers say. Over a trait of cases, which check_blocks could share, it would be longer.
+    // No `for`: each case is as long as its own numbers say. Over a trait of cases, which check_blocks could share, it would be
+    // longer.
     while let Some(case) = Case::at(cases, at) {
         let size = case.size();
         tally = case.tallied(tally, &cases[at + 12..at + size], number);
@@ -32,7 +34,7 @@ pub fn compare(cases: &[u8], number: u32) -> Tally
 }
 
 impl Case {
-    // The case at a place, if it is there whole.
+    // The case at a place, if it is there whole. check_blocks has such a function, of other numbers.
     fn at(cases: &[u8], at: usize) -> Option<Case>
         requires { at ≤ length cases.now }
         ensures { MatchOption result (length cases.now < at + size_at cases.now at) (λ case. (case ≡ case_at cases.now at) × (at + size_at cases.now at ≤ length cases.now)) }
@@ -60,7 +62,7 @@ impl Case {
         12 + self.length as usize + self.due as usize
     }
 
-    // The case counts where the answer in question is due.
+    // The case counts where the answer in question is due. check_blocks has the same of its cases, whose is_met is another.
     fn tallied(self, tally: Tally, bytes: &[u8], number: u32) -> Tally
         requires { self.length ≤ length bytes.now }
         ensures { result ≡ case_tallied self bytes.now number tally }
@@ -78,6 +80,7 @@ impl Case {
         requires { self.length ≤ length bytes.now }
         ensures { result ≡ met self bytes.now }
     {
+        // Arrays and no Vec: a Vec would make each function above answer for memory.
         let mut lent = [0; 65536];
         let mut due = [0; 65536];
         let (block, new) = bytes.split_at(self.length as usize);

@@ -5,7 +5,7 @@
 mod buffer;
 mod cases;
 
-use check_answers::Answer;
+use check_answers::print_each;
 use std::io;
 
 // The numbers of the answers that the files have.
@@ -24,9 +24,7 @@ fn main(rt: HostRuntime) -> io::Result<()> {
 // Compares the cases of a file. The lines name the answer that is due, and of what it is.
 fn check(rt: &HostRuntime, path: &str, answers: &[u32], of: &str) -> io::Result<()> {
     let cases = check_records::read(rt, path, 524288);
-    for number in answers {
-        let check = format!(in rt.alloc(); "{}{of}:", Answer(*number))?;
-        cases::compare(&cases, *number).print(rt, &check)?;
-    }
-    Ok(())
+    print_each(rt, "", answers, of, |number| {
+        cases::compare(&cases, number)
+    })
 }

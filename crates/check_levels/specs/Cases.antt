@@ -1,12 +1,12 @@
 -- The records of the files that reference/make_levels.py makes, and whether the conversion agrees with them.
 -- Definitions only.
-use Rattle.std.specs.Prelude.{ℕ, ◌+◌, ◌*◌, ◌≡◌, Bool, false, ◌&&◌, cond, List, ◌==◌, pos, ◌-ℤ◌, Result, Ok, Err}
+use Rattle.std.specs.Prelude.{ℕ, ◌+◌, ◌*◌, ◌≡◌, Bool, false, ◌&&◌, List, ◌==◌, pos, ◌-ℤ◌, Result, Ok, Err}
 use Rattle.std.specs.Ordering.{int_eq}
 use Rattle.exact.specs.Outcome.{Outcome, accepted, refused}
 use Rattle.systems.specs.declared.refusal.Refusal.{Refusal}
 use Rattle.systems.specs.Refusals.{outcome}
 use Rattle.levels.specs.declared.Level.{Level}
-use Rattle.check_records.specs.Records.{u16_at, u32_at}
+use Rattle.check_records.specs.Records.{due, u16_at, u32_at}
 use Rattle.check_levels.specs.declared.case.Case.{Case}
 
 -- a call's answers are these levels
@@ -15,7 +15,7 @@ Gives Answers level = (system code : ℕ) (answer : Result Level Refusal) → An
 
 -- the level from a place on, which has 1000 more than the millivolts, or the number of the refusal where that is not 0
 abbrev pub level_due : List ℕ → ℕ → Result Level ℕ
-level_due bs i = cond (u16_at bs i == 0) (Ok (record { millivolts = pos (u16_at bs (i + 2)) -ℤ pos 1000; remainder = u16_at bs (i + 4) })) (Err (u16_at bs i))
+level_due bs i = due (u16_at bs i) (record { millivolts = pos (u16_at bs (i + 2)) -ℤ pos 1000; remainder = u16_at bs (i + 4) })
 
 -- the record of 12 bytes at a place
 abbrev pub level_case : List ℕ → ℕ → Case

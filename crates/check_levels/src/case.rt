@@ -7,7 +7,7 @@ ghost use Rattle.levels.specs.Levels.{level_of_code, level_of_difference};
 ghost use Rattle.check_records.specs.Records.{tally_of};
 ghost use Rattle.check_levels.specs.Cases.{Gives, level_case, level_due, agrees, level_at};
 
-use check_records::{Tally, u16_at, u32_at};
+use check_records::{Tally, due, u16_at, u32_at};
 use levels::Level;
 use systems::Refusal;
 
@@ -62,13 +62,11 @@ fn due_at(records: &[u8], at: usize) -> Result<Level, u32>
     requires { at + 6 ≤ length records.now }
     ensures { result ≡ level_due records.now at }
 {
-    match u16_at(records, at) {
-        0 => Ok(Level {
-            millivolts: less_1000(u16_at(records, at + 2)),
-            remainder: u32::from(u16_at(records, at + 4)),
-        }),
-        refusal => Err(u32::from(refusal)),
-    }
+    let level = Level {
+        millivolts: less_1000(u16_at(records, at + 2)),
+        remainder: u32::from(u16_at(records, at + 4)),
+    };
+    due(u32::from(u16_at(records, at)), level)
 }
 
 // Records have 1000 more than the millivolts.

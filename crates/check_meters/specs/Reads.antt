@@ -17,9 +17,7 @@ use Rattle.check_meters.specs.declared.list.Play.{Play}
 abbrev pub read_at : List ℕ → ℕ → Read
 read_at bs i = record {
   begins = eqb (u16_at bs i) 1;
-  places = u16_at bs (i + 2);
-  start = u32_at bs (i + 4);
-  length = u16_at bs (i + 8);
+  block = record { start = u32_at bs (i + 4); length = u16_at bs (i + 8); places = u16_at bs (i + 2) };
   answer = u16_at bs (i + 10);
   due = due_at bs (i + 12);
   figures = record { rows = u16_at bs (i + 22); low = u32_at bs (i + 24); high = u32_at bs (i + 28) };
@@ -50,7 +48,7 @@ made_into r m block slice other =
 
 -- both slices hold in each of their places, which are fewer than 65536, a code that no system has
 abbrev pub lent : Read → List ℕ
-lent r = take r.places (replicate 65536 40000)
+lent r = take r.block.places (replicate 65536 40000)
 
 abbrev pub made_of : Read → Meter → List ℕ → Made
 made_of r m block = made_into r m block (lent r) (lent r)
@@ -58,8 +56,8 @@ made_of r m block = made_into r m block (lent r) (lent r)
 -- the block is a part of the blocks; where that is not there the read differs, and leaves the meter
 abbrev pub made : Read → Meter → List ℕ → Made
 made r m blocks =
-    cond (leb (r.start + r.length) (length blocks))
-    (made_of r (meter_for r m) (take r.length (drop r.start blocks)))
+    cond (leb (r.block.start + r.block.length) (length blocks))
+    (made_of r (meter_for r m) (take r.block.length (drop r.block.start blocks)))
     (record { met = false; meter = meter_for r m })
 
 -- what reads leave, the meter and their tally: before the first of them, and after one more, which counts where the answer in question is due

@@ -6,15 +6,16 @@ use crate::read::{Read, SIZE};
 use check_records::Tally;
 use meter::Meter;
 
-// The meter that the reads so far left, and their tally. A type of its own beside check_readers': another state and another call.
+// The meter that the reads so far left, and their tally. A type and a loop of its own beside check_readers': another state and
+// another call.
 #[derive(Clone, Copy)]
 struct Play {
     meter: Meter,
     tally: Tally,
 }
 
-// Makes the reads in order, each with the meter that the one before left, and compares those in which the answer of this number is
-// due. A read that is cut off differs.
+// Makes the reads in order, each with the meter that the one before left, and compares those in which the answer of this number,
+// one of the data's, is due. A read that is cut off differs.
 pub fn compare(reads: &[u8], blocks: &[u8], number: u32) -> Tally
     ensures { ReadsCompared reads.now blocks.now number result }
 {

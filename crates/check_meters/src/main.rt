@@ -5,7 +5,7 @@
 mod list;
 mod read;
 
-use check_answers::Answer;
+use check_answers::print_each;
 use std::io;
 
 // The numbers of the answers that the data have.
@@ -14,9 +14,7 @@ const ANSWERS: [u32; 8] = [0, 1, 5, 6, 8, 9, 10, 11];
 fn main(rt: HostRuntime) -> io::Result<()> {
     let blocks = check_records::read(&rt, "blocks", 262144);
     let reads = check_records::read(&rt, "reads", 131072);
-    for number in ANSWERS {
-        let check = format!(in rt.alloc(); "{}:", Answer(number))?;
-        list::compare(&reads, &blocks, number).print(&rt, &check)?;
-    }
-    Ok(())
+    print_each(&rt, "", &ANSWERS, "", |number| {
+        list::compare(&reads, &blocks, number)
+    })
 }

@@ -4,7 +4,7 @@ ghost use Rattle.systems.specs.Refusals.{outcome};
 ghost use Rattle.check_meters.specs.Reads.{read_at, met, made_into, made_of, made};
 
 use block::Header;
-use check_answers::{Due, agrees};
+use check_answers::{Due, Part, agrees};
 use check_records::{u16_at, u32_at};
 use meter::{Figures, Meter};
 use systems::Refusal;
@@ -12,14 +12,12 @@ use systems::Refusal;
 // The bytes of a record.
 pub const SIZE: usize = 32;
 
-// One record. The block's bytes are a part of the file 'blocks', and the figures are those after the read. The answer is a number of
-// the data's, which our refusals' numbers are compared with.
+// One record. The figures are those after the read. The answer is a number of the data's, which our refusals' numbers are
+// compared with, and a refused read has a header beside it, as `agrees` takes them.
 #[derive(Clone, Copy)]
 pub struct Read {
     begins: bool,
-    places: u16,
-    start: u32,
-    length: u16,
+    block: Part,
     pub answer: u32,
     due: Due,
     figures: Figures,
@@ -32,9 +30,11 @@ impl Read {
     {
         Read {
             begins: u16_at(reads, at) == 1,
-            places: u16_at(reads, at + 2),
-            start: u32_at(reads, at + 4),
-            length: u16_at(reads, at + 8),
+            block: Part {
+                places: u16_at(reads, at + 2),
+                start: u32_at(reads, at + 4),
+                length: u16_at(reads, at + 8),
+            },
             answer: u32::from(u16_at(reads, at + 10)),
             due: Due::at(reads, at + 12),
             figures: Figures {
@@ -54,9 +54,7 @@ impl Read {
         if self.begins {
             *meter = Meter::new();
         }
-        let start = self.start as usize;
-        let end = start + self.length as usize;
-        let Some(block) = blocks.get(start..end) else {
+        let Some(block) = self.block.of(blocks) else {
             return false;
         };
         self.made_of(meter, block)
@@ -67,9 +65,10 @@ impl Read {
         ensures met { result ≡ (made_of self meter.old block.now).met }
         ensures meter_after { meter.new ≡ (made_of self meter.old block.now).meter }
     {
+        // Arrays and no Vec: a Vec would make each function above answer for memory.
         let mut lent = [40000; 65536];
         let mut other = [40000; 65536];
-        let places = self.places as usize;
+        let places = self.block.places as usize;
         self.made_into(meter, block, &mut lent[..places], &mut other[..places])
     }
 

@@ -15,87 +15,102 @@ use Rattle.check_records.specs.Records.{u16_at, u32_at, begin_alike, none, talli
 use Rattle.check_answers.specs.Answers.{number_of}
 use Rattle.check_pictures.specs.declared.kind.Kind.{Kind}
 use Rattle.check_pictures.specs.declared.kind.Kind.TheVariants.{New, Open, Row, Close}
+use Rattle.check_pictures.specs.declared.given.Part.{Part}
+use Rattle.check_pictures.specs.declared.given.Given.{Given}
+use Rattle.check_pictures.specs.declared.given.Given.TheVariants as given
 use Rattle.check_pictures.specs.declared.list.Counted.{Counted}
 use Rattle.check_pictures.specs.declared.list.Play.{Play}
 use Rattle.check_pictures.specs.declared.call.Call.{Call}
 
--- the kind of a number of the data
-abbrev pub kind_of : ℕ → Option Kind
-kind_of n =
-    cond (eqb n 0) (Some New)
-    (cond (eqb n 1) (Some Open)
-    (cond (eqb n 2) (Some Row)
-    (cond (eqb n 3) (Some Close) None)))
+-- what a call is given, by the kind's number and three numbers of the data; none where it is no kind's
+abbrev pub given_of : ℕ → ℕ → ℕ → ℕ → Option Given
+given_of n first second third =
+    cond (eqb n 0) (Some given.New)
+    (cond (eqb n 1) (Some (given.Open first second third))
+    (cond (eqb n 2) (Some (given.Row (record { first = first; count = second; room = third })))
+    (cond (eqb n 3) (Some given.Close) None)))
 
-abbrev pub same_kind : Option Kind → Kind → Bool
-same_kind (Some New) New = true
-same_kind (Some Open) Open = true
-same_kind (Some Row) Row = true
-same_kind (Some Close) Close = true
+-- of the call at a place
+abbrev pub given_at : List ℕ → ℕ → Option Given
+given_at bs i = given_of (u16_at bs i) (u32_at bs (i + 18)) (u32_at bs (i + 22)) (u32_at bs (i + 26))
+
+abbrev pub kind_of : Given → Kind
+kind_of given.New = New
+kind_of (given.Open system width height) = Open
+kind_of (given.Row part) = Row
+kind_of given.Close = Close
+
+abbrev pub same_kind : Kind → Kind → Bool
+same_kind New New = true
+same_kind Open Open = true
+same_kind Row Row = true
+same_kind Close Close = true
 same_kind _ _ = false
+
+abbrev pub is_kind : Option Given → Kind → Bool
+is_kind None kind = false
+is_kind (Some g) kind = same_kind (kind_of g) kind
 
 -- the numbers of the call at a place
 abbrev pub call_at : List ℕ → ℕ → Call
 call_at bs i = record {
-  kind = kind_of (u16_at bs i);
+  given = given_at bs i;
   answer = u16_at bs (i + 2);
   rows = u16_at bs (i + 4);
   system = u16_at bs (i + 6);
   samples = u16_at bs (i + 8);
   bytes = u32_at bs (i + 10);
   clips = record { low = u16_at bs (i + 14); high = u16_at bs (i + 16) };
-  first = u32_at bs (i + 18);
-  second = u32_at bs (i + 22);
-  third = u32_at bs (i + 26);
 }
 
 -- a call of this kind in which the answer of this number is due
 abbrev pub is_of : Call → Counted → Bool
-is_of c counted = same_kind c.kind counted.kind && eqb c.answer counted.answer
+is_of c counted = is_kind c.given counted.kind && eqb c.answer counted.answer
 
 -- the bytes of the block that is due, 0 where none is
 abbrev pub block_length : Call → ℕ
 block_length c = cond (eqb c.samples 0) 0 (9 + 6 * c.samples)
 
 -- the length of the buffer that a row is lent
-abbrev pub room_by : Option Kind → ℕ → ℕ
-room_by (Some Row) n = n
-room_by _ n = 0
+abbrev pub room_by : Option Given → ℕ
+room_by (Some (given.Row part)) = part.room
+room_by _ = 0
 
 abbrev pub room : Call → ℕ
-room c = room_by c.kind c.third
+room c = room_by c.given
 
 -- a row's own part of the lights
-abbrev pub lights_of : Call → List ℕ → List ℕ
-lights_of c lights = take c.second (drop c.first lights)
+abbrev pub lights_of : Part → List ℕ → List ℕ
+lights_of part lights = take part.count (drop part.first lights)
 
 -- its lights and its buffer are there
-abbrev pub is_there : Call → List ℕ → List ℕ → Bool
-is_there c lights lent = leb (c.first + c.second) (length lights) && leb (room c) (length lent)
+abbrev pub is_there : Part → List ℕ → List ℕ → Bool
+is_there part lights lent = leb (part.first + part.count) (length lights) && leb part.room (length lent)
 
 -- a row's answer, and the buffer after it; where its lights or buffer are not there it is refused with 7, as no picture answers
-abbrev pub row_answer : Call → Picture → List ℕ → List ℕ → Outcome Picture
-row_answer c p lights lent = cond (is_there c lights lent) (rowing p (lights_of c lights) (room c)) (refused 7)
+abbrev pub row_answer : Part → Picture → List ℕ → List ℕ → Outcome Picture
+row_answer part p lights lent = cond (is_there part lights lent) (rowing p (lights_of part lights) part.room) (refused 7)
 
-abbrev pub row_buffer : Call → Picture → List ℕ → List ℕ → List ℕ
-row_buffer c p lights lent = cond (is_there c lights lent) (buffer_after p (lights_of c lights) (take (room c) lent) ++ drop (room c) lent) lent
+abbrev pub row_buffer : Part → Picture → List ℕ → List ℕ → List ℕ
+row_buffer part p lights lent =
+    cond (is_there part lights lent) (buffer_after p (lights_of part lights) (take part.room lent) ++ drop part.room lent) lent
 
 -- a call's answer and the buffer after it, by its kind; one that is no open, row or close begins a list with a fresh picture
-abbrev pub answer_by : Option Kind → Call → Picture → List ℕ → List ℕ → Outcome Picture
-answer_by (Some Open) c p lights lent = opening p c.first c.second c.third
-answer_by (Some Row) c p lights lent = row_answer c p lights lent
-answer_by (Some Close) c p lights lent = closing p
-answer_by _ c p lights lent = accepted (at phase.Fresh 0)
+abbrev pub answer_by : Option Given → Picture → List ℕ → List ℕ → Outcome Picture
+answer_by (Some (given.Open system width height)) p lights lent = opening p system width height
+answer_by (Some (given.Row part)) p lights lent = row_answer part p lights lent
+answer_by (Some given.Close) p lights lent = closing p
+answer_by _ p lights lent = accepted (at phase.Fresh 0)
 
 abbrev pub call_answer : Call → Picture → List ℕ → List ℕ → Outcome Picture
-call_answer c p lights lent = answer_by c.kind c p lights lent
+call_answer c p lights lent = answer_by c.given p lights lent
 
-abbrev pub buffer_by : Option Kind → Call → Picture → List ℕ → List ℕ → List ℕ
-buffer_by (Some Row) c p lights lent = row_buffer c p lights lent
-buffer_by _ c p lights lent = lent
+abbrev pub buffer_by : Option Given → Picture → List ℕ → List ℕ → List ℕ
+buffer_by (Some (given.Row part)) p lights lent = row_buffer part p lights lent
+buffer_by _ p lights lent = lent
 
 abbrev pub buffer_of : Call → Picture → List ℕ → List ℕ → List ℕ
-buffer_of c p lights lent = buffer_by c.kind c p lights lent
+buffer_of c p lights lent = buffer_by c.given p lights lent
 
 -- the rows accepted of an open picture
 abbrev pub rows_of : Phase → ℕ

@@ -1,9 +1,9 @@
 // A call of the lists: what it is given, and what it has to answer.
 ghost use Rattle.std.specs.Prelude.{◌≡◌, ◌+◌, ◌<◌, ◌≤◌, length, MatchOption};
 ghost use Rattle.systems.specs.Refusals.{outcome};
-ghost use Rattle.check_pictures.specs.Calls.{call_at, is_of, block_length, size_of, size_at, room, row_answer, row_buffer, call_answer, buffer_of, same_header, read_as};
+ghost use Rattle.check_pictures.specs.Calls.{call_at, is_of, block_length, size_of, size_at, room, call_answer, buffer_of, same_header, read_as};
 
-use crate::kind::Kind;
+use crate::given::Given;
 use crate::list::Counted;
 use block::Header;
 use check_records::{u16_at, u32_at};
@@ -11,20 +11,17 @@ use matrix::Clips;
 use picture::Picture;
 use systems::Refusal;
 
-// What stands before a call's block. The answer is a number of the data's, which our refusals' numbers are compared with. An open is
-// given the system, width and height, a row the place of its first light, how many lights, and the length of its buffer.
+// What stands before a call's block. The answer is a number of the data's, which our refusals' numbers are compared with.
+// 0 samples: no block is due, as the data say it.
 #[derive(Clone, Copy)]
 pub struct Call {
-    kind: Option<Kind>,
+    given: Option<Given>,
     pub answer: u32,
     pub rows: u16,
     system: u32,
     pub samples: u16,
     pub bytes: u32,
     clips: Clips,
-    first: u32,
-    second: u32,
-    third: u32,
 }
 
 impl Call {
@@ -48,7 +45,7 @@ impl Call {
         ensures { result ≡ call_at calls.now at }
     {
         Call {
-            kind: Kind::of(u16_at(calls, at)),
+            given: Given::at(calls, at),
             answer: u32::from(u16_at(calls, at + 2)),
             rows: u16_at(calls, at + 4),
             system: u32::from(u16_at(calls, at + 6)),
@@ -58,19 +55,16 @@ impl Call {
                 low: u16_at(calls, at + 14),
                 high: u16_at(calls, at + 16),
             },
-            first: u32_at(calls, at + 18),
-            second: u32_at(calls, at + 22),
-            third: u32_at(calls, at + 26),
         }
     }
 
     pub fn is_of(self, counted: Counted) -> bool
         ensures { result ≡ is_of self counted }
     {
-        (self.kind == Some(counted.kind)) & (self.answer == counted.answer)
+        (self.given.map(Given::kind) == Some(counted.kind)) & (self.answer == counted.answer)
     }
 
-    // The bytes of the block that is due, 0 where none is.
+    // The bytes of the block that is due, 0 where none is: written again, so that a wrong size shows.
     pub fn block_length(self) -> usize
         ensures { (result ≡ block_length self) × (result ≤ 393219) }
     {
@@ -92,8 +86,8 @@ impl Call {
     pub fn room(self) -> usize
         ensures { result ≡ room self }
     {
-        match self.kind {
-            Some(Kind::Row) => self.third as usize,
+        match self.given {
+            Some(Given::Row(part)) => part.room as usize,
             _ => 0,
         }
     }
@@ -103,26 +97,18 @@ impl Call {
         ensures result_value { outcome result ≡ call_answer self picture lights.now lent.old }
         ensures lent_after { lent.new ≡ buffer_of self picture lights.now lent.old }
     {
-        match self.kind {
-            Some(Kind::Open) => picture.open(self.first, self.second, self.third),
-            Some(Kind::Row) => self.row(picture, lights, lent),
-            Some(Kind::Close) => picture.close(),
-            Some(Kind::New) | None => Ok(Picture::new()),
+        match self.given {
+            Some(
+                Given::Open {
+                    system,
+                    width,
+                    height,
+                },
+            ) => picture.open(system, width, height),
+            Some(Given::Row(part)) => part.row(picture, lights, lent),
+            Some(Given::Close) => picture.close(),
+            Some(Given::New) | None => Ok(Picture::new()),
         }
-    }
-
-    // A row whose lights or buffer are not there is answered as no picture answers.
-    fn row(self, picture: Picture, lights: &[u16], lent: &mut [u8]) -> Result<Picture, Refusal>
-        ensures result_value { outcome result ≡ row_answer self picture lights.now lent.old }
-        ensures lent_after { lent.new ≡ row_buffer self picture lights.now lent.old }
-    {
-        let start = self.first as usize;
-        let end = start + self.second as usize;
-        let room = self.room();
-        if end > lights.len() || room > lent.len() {
-            return Err(Refusal::Signal);
-        }
-        picture.row(&lights[start..end], &mut lent[..room])
     }
 
     // Whether reading answers with the row that this call was.
@@ -135,7 +121,7 @@ impl Call {
         }
     }
 
-    // The row number is that of the last row accepted.
+    // The row number is that of the last row accepted, and the data's count rows from 1, so this is no Due.
     fn is_row(self, header: Header) -> bool
         ensures { result ≡ same_header header self }
     {

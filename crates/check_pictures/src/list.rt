@@ -9,7 +9,8 @@ use check_answers::number_of;
 use check_records::{Tally, begin_alike};
 use picture::{Phase, Picture};
 
-// The calls that a line counts: those of a kind in which the answer of this number is due.
+// The calls that a line counts: those of a kind in which this answer is due, a number of the data's, which our refusals' numbers are
+// compared with.
 #[derive(Clone, Copy)]
 pub struct Counted {
     pub kind: Kind,
@@ -17,6 +18,7 @@ pub struct Counted {
 }
 
 // What the calls so far left: the picture, the lent buffer, what that buffer has to hold, and the tally.
+// An array and no Vec: a Vec would make each function above answer for memory.
 #[derive(Drop)]
 struct Play {
     picture: Picture,

@@ -3,6 +3,7 @@
 #![tactic(auto)]
 
 mod call;
+mod given;
 mod kind;
 mod list;
 mod reading;
@@ -11,7 +12,7 @@ mod total;
 ghost use Rattle.std.specs.Prelude.{◌≡◌, ◌/◌, length, IfOk};
 ghost use Rattle.check_pictures.specs.Calls.{lights_to};
 
-use check_answers::Answer;
+use check_answers::print_each;
 use check_records::u16_at;
 use kind::Kind;
 use list::Counted;
@@ -61,13 +62,8 @@ fn compare(
     kind: Kind,
     answers: &[u32],
 ) -> io::Result<()> {
-    for number in answers {
-        let counted = Counted {
-            kind,
-            answer: *number,
-        };
-        let check = format!(in rt.alloc(); "{kind} {}:", Answer(*number))?;
-        list::compare(calls, lights, counted).print(rt, &check)?;
-    }
-    Ok(())
+    let before = format!(in rt.alloc(); "{kind} ")?;
+    print_each(rt, &before, answers, "", |answer| {
+        list::compare(calls, lights, Counted { kind, answer })
+    })
 }

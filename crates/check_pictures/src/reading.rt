@@ -6,6 +6,7 @@ use crate::call::Call;
 use check_records::u16_at;
 
 // Reads the block at the front of the buffer, where one is due, into a slice with no place to spare.
+// An array and no Vec: a Vec would make each function above answer for memory.
 pub fn is_met(call: Call, lent: &[u8], due: &[u8]) -> bool
     ensures { result ≡ read_met call lent.now due.now }
 {

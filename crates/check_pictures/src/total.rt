@@ -3,15 +3,15 @@ ghost use Rattle.std.specs.Prelude.{◌≡◌, ◌+◌, ◌≤◌, length};
 ghost use Rattle.check_records.specs.Records.{tally_of};
 ghost use Rattle.check_pictures.specs.Totals.{total_case, total_met, total_at};
 
-use check_records::{Tally, u16_at, u32_at};
+use check_records::{Tally, due, u16_at, u32_at};
+use systems::Refusal;
 
-// One record: a width and a height, the number of the answer, and the bytes of such a picture.
+// One record: a width and a height, and the bytes that are due for such a picture, or the number of the refusal.
 #[derive(Clone, Copy)]
 struct Case {
-    answer: u32,
     width: u32,
     height: u32,
-    bytes: u32,
+    due: Result<u32, u32>,
 }
 
 // Compares the total of each record's width and height with it.
@@ -27,19 +27,15 @@ impl Case {
         ensures { result ≡ total_case records.now at }
     {
         Case {
-            answer: u32::from(u16_at(records, at)),
             width: u32_at(records, at + 2),
             height: u32_at(records, at + 6),
-            bytes: u32_at(records, at + 10),
+            due: due(u32::from(u16_at(records, at)), u32_at(records, at + 10)),
         }
     }
 
     fn is_met(self) -> bool
         ensures { result ≡ total_met self }
     {
-        match picture::total_bytes(self.width, self.height) {
-            Ok(found) => (self.answer == 0) & (found == self.bytes),
-            Err(refusal) => refusal.number() == self.answer,
-        }
+        picture::total_bytes(self.width, self.height).map_err(Refusal::number) == self.due
     }
 }

@@ -10,10 +10,10 @@ use Rattle.reader.specs.declared.Taken.{Taken}
 use Rattle.reader.specs.Reader.{at, opening, taking, slice_after}
 use Rattle.check_records.specs.declared.tally.Tally.{Tally}
 use Rattle.check_records.specs.Records.{u16_at, u32_at, same_to, none, tallied, Compared}
+use Rattle.check_answers.specs.declared.part.Part.{Part}
 use Rattle.check_answers.specs.Answers.{due_at, seen, same_due}
 use Rattle.check_readers.specs.declared.left.Left.{Left}
 use Rattle.check_readers.specs.declared.left.Left.TheVariants.{Unopened, Reading, Complete}
-use Rattle.check_readers.specs.declared.call.Block.{Block}
 use Rattle.check_readers.specs.declared.call.Given.{Given}
 use Rattle.check_readers.specs.declared.call.Given.TheVariants as given
 use Rattle.check_readers.specs.declared.call.Call.{Call}
@@ -108,7 +108,7 @@ abbrev pub read_of : Call → ℕ → Reader → List ℕ → Made
 read_of c places r bs = read_into c r bs (lent places) (lent places)
 
 -- the block is a part of the blocks; where that is not there the call differs, and leaves the reader
-abbrev pub read : Call → Block → Reader → List ℕ → Made
+abbrev pub read : Call → Part → Reader → List ℕ → Made
 read c b r blocks =
     cond (leb (b.start + b.length) (length blocks))
     (read_of c b.places r (take b.length (drop b.start blocks)))

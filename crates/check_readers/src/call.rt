@@ -4,7 +4,7 @@ ghost use Rattle.systems.specs.Refusals.{outcome};
 ghost use Rattle.check_readers.specs.Calls.{given_at, call_at, is_left, opened, answered, taken_as, slice_due, read_into, read_of, read, made};
 
 use crate::left::Left;
-use check_answers::{Due, number_of};
+use check_answers::{Due, Part, agrees, number_of};
 use check_records::{u16_at, u32_at};
 use reader::{Reader, Taken};
 use systems::Refusal;
@@ -12,23 +12,15 @@ use systems::Refusal;
 // The bytes of a record.
 pub const SIZE: usize = 32;
 
-// A block, a part of the bytes of the file 'blocks', and how many places the slice has that is lent for its codes.
-#[derive(Clone, Copy)]
-pub struct Block {
-    start: u32,
-    length: u16,
-    places: u16,
-}
-
 // What a call is given: the height to open the reader with, or a block to read.
 #[derive(Clone, Copy)]
 pub enum Given {
     Height(u32),
-    Block(Block),
+    Block(Part),
 }
 
-// One record. The answer is a number of the data's, which our refusals' numbers are compared with. left is how the call leaves the
-// reader.
+// One record. The answer is a number of the data's, which our refusals' numbers are compared with, and a refused call has a
+// header beside it, as `agrees` takes them. left is how the call leaves the reader.
 #[derive(Clone, Copy)]
 pub struct Call {
     begins: bool,
@@ -46,7 +38,7 @@ impl Given {
     {
         match u16_at(calls, at) {
             0 => Given::Height(u32_at(calls, at + 2)),
-            _ => Given::Block(Block {
+            _ => Given::Block(Part {
                 start: u32_at(calls, at + 6),
                 length: u16_at(calls, at + 10),
                 places: u16_at(calls, at + 12),
@@ -103,13 +95,11 @@ impl Call {
     }
 
     // Reads the block. A call whose block is not there differs, and leaves the reader.
-    fn read(self, block: Block, reader: &mut Reader, blocks: &[u8]) -> bool
+    fn read(self, block: Part, reader: &mut Reader, blocks: &[u8]) -> bool
         ensures met { result ≡ (read self block reader.old blocks.now).met }
         ensures reader_after { reader.new ≡ (read self block reader.old blocks.now).reader }
     {
-        let start = block.start as usize;
-        let end = start + block.length as usize;
-        let Some(bytes) = blocks.get(start..end) else {
+        let Some(bytes) = block.of(blocks) else {
             return false;
         };
         self.read_of(block.places, reader, bytes)
@@ -120,6 +110,7 @@ impl Call {
         ensures met { result ≡ (read_of self places reader.old bytes.now).met }
         ensures reader_after { reader.new ≡ (read_of self places reader.old bytes.now).reader }
     {
+        // Arrays and no Vec: a Vec would make each function above answer for memory.
         let mut lent = [40000; 65536];
         let mut due = [40000; 65536];
         let places = places as usize;
@@ -151,13 +142,10 @@ impl Call {
         ensures met { result ≡ (taken_as self reader.old (outcome answer)).met }
         ensures reader_after { reader.new ≡ (taken_as self reader.old (outcome answer)).reader }
     {
-        match answer {
-            Ok(taken) => {
-                *reader = taken.reader;
-                (self.answer == 0) & (Due::from(taken.header) == self.due)
-            }
-            Err(refusal) => refusal.number() == self.answer,
+        if let Ok(taken) = answer {
+            *reader = taken.reader;
         }
+        agrees(answer.map(|taken| taken.header), self.answer, self.due)
     }
 
     fn is_left(self, reader: Reader) -> bool

@@ -6,15 +6,16 @@ use crate::call::{Call, SIZE};
 use check_records::Tally;
 use reader::Reader;
 
-// The reader that the calls so far left, and their tally. A type of its own beside check_meters': another state and another call.
+// The reader that the calls so far left, and their tally. A type and a loop of its own beside check_meters': another state and
+// another call.
 #[derive(Clone, Copy)]
 struct Play {
     reader: Reader,
     tally: Tally,
 }
 
-// Makes the calls in order, each with the reader that the one before left, and compares those in which the answer of this number is
-// due. A call that is cut off differs.
+// Makes the calls in order, each with the reader that the one before left, and compares those in which the answer of this number,
+// one of the data's, is due. A call that is cut off differs.
 pub fn compare(calls: &[u8], blocks: &[u8], number: u32) -> Tally
     ensures { CallsCompared calls.now blocks.now number result }
 {

@@ -6,7 +6,7 @@ mod call;
 mod left;
 mod list;
 
-use check_answers::Answer;
+use check_answers::print_each;
 use std::io;
 
 // The numbers of the answers that the data have.
@@ -15,9 +15,7 @@ const ANSWERS: [u32; 12] = [0, 1, 3, 5, 6, 8, 9, 10, 11, 34, 35, 36];
 fn main(rt: HostRuntime) -> io::Result<()> {
     let blocks = check_records::read(&rt, "blocks", 262144);
     let calls = check_records::read(&rt, "calls", 131072);
-    for number in ANSWERS {
-        let check = format!(in rt.alloc(); "{}:", Answer(number))?;
-        list::compare(&calls, &blocks, number).print(&rt, &check)?;
-    }
-    Ok(())
+    print_each(&rt, "", &ANSWERS, "", |number| {
+        list::compare(&calls, &blocks, number)
+    })
 }

@@ -1,6 +1,6 @@
 -- What the programs that compare go by: the numbers in the files of data, the count of comparisons, and nominal codes.
 -- Definitions only.
-use Rattle.std.specs.Prelude.{ℕ, zero, suc, ◌+◌, ◌*◌, ◌-◌, ◌/◌, ◌%◌, ◌^◌, ◌≤◌, ◌<◌, min, ◌≡◌, Bool, true, false, ◌&&◌, cond, List, eqb, leb, length, get_or}
+use Rattle.std.specs.Prelude.{ℕ, zero, suc, ◌+◌, ◌*◌, ◌-◌, ◌/◌, ◌%◌, ◌^◌, ◌≤◌, ◌<◌, min, ◌≡◌, Bool, true, false, ◌&&◌, cond, List, eqb, leb, length, get_or, Result, Ok, Err}
 use Rattle.check_records.specs.declared.tally.Tally.{Tally}
 
 -- the 16-bit number at a place, low byte first
@@ -10,6 +10,10 @@ u16_at bs i = get_or bs i 0 + 256 * get_or bs (i + 1) 0
 -- the 32-bit number at a place, low byte first
 abbrev pub u32_at : List ℕ → ℕ → ℕ
 u32_at bs i = u16_at bs i + 65536 * u16_at bs (i + 2)
+
+-- what is due: the values of a record, or the number of the refusal where that is not 0
+abbrev pub due : {A : Type 0} → ℕ → A → Result A ℕ
+due n a = cond (eqb n 0) (Ok a) (Err n)
 
 -- the first n bytes of two buffers are there and the same
 unfoldable pub same_to : List ℕ → List ℕ → ℕ → Bool

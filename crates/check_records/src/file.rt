@@ -1,6 +1,6 @@
 // The files of data/, which the scripts of reference/ make, and the numbers in them.
 ghost use Rattle.std.specs.Prelude.{◌+◌, ◌≡◌, ◌≤◌, length, vec_len};
-ghost use Rattle.check_records.specs.Records.{u16_at, u32_at};
+ghost use Rattle.check_records.specs.Records.{due, u16_at, u32_at};
 
 use std::fs;
 use std::io::Read;
@@ -22,6 +22,7 @@ pub fn read<R: Files + AllocGlobal>(rt: &R, path: &str, most: usize) -> Vec<u8>
 }
 
 // The 16-bit number at a place, low byte first.
+// block has such a function; this one is written again, so that a wrong one shows as a difference.
 pub fn u16_at(bytes: &[u8], at: usize) -> u16
     requires { at + 2 ≤ length bytes.now }
     ensures { result ≡ u16_at bytes.now at }
@@ -35,4 +36,11 @@ pub fn u32_at(bytes: &[u8], at: usize) -> u32
     ensures { result ≡ u32_at bytes.now at }
 {
     u32::from_le_bytes([bytes[at], bytes[at + 1], bytes[at + 2], bytes[at + 3]])
+}
+
+// What a record's number says of its values: 0 that they are due; another is the number of the refusal that is.
+pub fn due<T: Drop>(number: u32, values: T) -> Result<T, u32>
+    ensures { result ≡ due number values }
+{
+    if number == 0 { Ok(values) } else { Err(number) }
 }

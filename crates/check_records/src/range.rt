@@ -7,8 +7,7 @@ fn scale(system: u32) -> u16
 {
     match system {
         1 => 1,
-        2 => 4,
-        3 => 4,
+        2 | 3 => 4,
         _ => 16,
     }
 }

@@ -50,6 +50,7 @@ impl fmt::Display for Tally {
 }
 
 // The tally of so many bytes of records of a size, by whether the one at a place is met.
+// A place is given and no slice, since the definitions name the place.
 #[tactic(auto, unfolding(crate::specs::Records::tally_to))]
 pub fn compare<F: Fn(usize) -> bool>(bytes: usize, size: usize, is_met: F) -> Tally
     requires some { 0 < size }

@@ -6,12 +6,8 @@ use Rattle.segmented.specs.declared.Order.{Order}
 use Rattle.segmented.specs.declared.Order.TheVariants.{Segmented, Progressive}
 use Rattle.segmented.specs.Segmented.{move_outcome, buffer_after}
 use Rattle.check_records.specs.declared.tally.Tally.{Tally}
-use Rattle.check_records.specs.Records.{u32_at, begin_alike, none, tallied}
+use Rattle.check_records.specs.Records.{due, u32_at, begin_alike, none, tallied}
 use Rattle.check_segmented.specs.declared.lengths.Case.{Case}
-
--- what a record's number says: the refusal that is due, or for 0 that the call is accepted
-abbrev pub due : ℕ → Result (Unit {0}) ℕ
-due n = cond (eqb n 0) (Ok tt) (Err n)
 
 -- the answer is the one that is due
 abbrev pub agrees : Outcome (Unit {0}) → Result (Unit {0}) ℕ → Bool
@@ -30,7 +26,7 @@ moved o answer from due to = cond (leb to 5400) (moves o answer from due (take t
 
 -- lengths: the record of 12 bytes at a place
 abbrev pub case_at : List ℕ → ℕ → Case
-case_at bs i = record { from = u32_at bs i; to = u32_at bs (i + 4); due = due (u32_at bs (i + 8)) }
+case_at bs i = record { from = u32_at bs i; to = u32_at bs (i + 4); due = due (u32_at bs (i + 8)) tt }
 
 -- the bytes that are due of a buffer into which rows of zeros are moved, or not
 abbrev pub due_byte : Result (Unit {0}) ℕ → ℕ

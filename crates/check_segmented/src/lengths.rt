@@ -1,13 +1,14 @@
 // Which lengths are accepted, against the file 'lengths'.
 ghost use Rattle.std.specs.Prelude.{◌≡◌, ◌+◌, ◌≤◌, length};
 ghost use Rattle.check_records.specs.Records.{tally_of};
-ghost use Rattle.check_segmented.specs.Cases.{due, case_at, due_byte, lengths_met, lengths_at};
+ghost use Rattle.check_segmented.specs.Cases.{case_at, due_byte, lengths_met, lengths_at};
 
 use crate::moving::{FILLED, ROOM, is_moved};
-use check_records::{Tally, u32_at};
+use check_records::{Tally, due, u32_at};
 use segmented::Order;
 
-// One record: the lengths of two buffers, and whether they are accepted, or the number of the refusal that is due.
+// One record: the lengths of two buffers, and whether they are accepted, or the number of the refusal that is due: a
+// number of the data's, which our refusals' numbers are compared with.
 #[derive(Clone, Copy)]
 struct Case {
     from: u32,
@@ -29,15 +30,8 @@ fn case_at(records: &[u8], at: usize) -> Case
     Case {
         from: u32_at(records, at),
         to: u32_at(records, at + 4),
-        due: due(u32_at(records, at + 8)),
+        due: due(u32_at(records, at + 8), ()),
     }
-}
-
-// What a record's number says: 0 that the call is accepted.
-fn due(number: u32) -> Result<(), u32>
-    ensures { result ≡ due number }
-{
-    if number == 0 { Ok(()) } else { Err(number) }
 }
 
 impl Case {
@@ -45,6 +39,7 @@ impl Case {
     fn is_met(self, order: Order) -> bool
         ensures { result ≡ lengths_met order self }
     {
+        // Arrays and no Vec: a Vec would make each function above answer for memory.
         let zeros = [0u8; ROOM];
         let due = [due_byte(self.due); ROOM];
         let from = self.from as usize;

@@ -17,6 +17,7 @@ pub const FILLED: u8 = 171;
 pub fn is_moved(order: Order, answer: Result<(), u32>, from: &[u8], due: &[u8], to: usize) -> bool
     ensures { result ≡ moved order answer from.now due.now to }
 {
+    // An array and no Vec: a Vec would make each function above answer for memory.
     let mut lent = [FILLED; ROOM];
     if to > lent.len() {
         return false;
@@ -31,6 +32,7 @@ fn moves(order: Order, answer: Result<(), u32>, from: &[u8], due: &[u8], lent: &
     is_due(found, answer) & begin_alike(lent, due, lent.len())
 }
 
+// By the order, which the definitions name: a closure would have to be told both what it answers and what it leaves.
 fn call(order: Order, from: &[u8], to: &mut [u8]) -> Result<(), Refusal>
     ensures result_value { outcome result ≡ move_outcome (length from.now) (length to.old) }
     ensures to_after { to.new ≡ buffer_after order from.now to.old }

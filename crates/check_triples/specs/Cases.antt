@@ -1,6 +1,6 @@
 -- The records of the files that reference/make_triples.py makes, and whether the conversion agrees with them.
 -- Definitions only.
-use Rattle.std.specs.Prelude.{ℕ, ◌+◌, ◌*◌, ◌/◌, ◌%◌, Bool, false, ◌&&◌, cond, List, eqb, get_or, Result, Ok, Err}
+use Rattle.std.specs.Prelude.{ℕ, ◌+◌, ◌*◌, ◌/◌, ◌%◌, Bool, false, ◌&&◌, List, eqb, get_or, Result, Ok, Err}
 use Rattle.exact.specs.Outcome.{Outcome, accepted, refused}
 use Rattle.systems.specs.declared.Codes.{Codes}
 use Rattle.matrix.specs.declared.Clipped.{Clipped}
@@ -9,7 +9,7 @@ use Rattle.matrix.specs.declared.Encoding.TheVariants.{Plain}
 use Rattle.matrix.specs.declared.Limited.{Limited}
 use Rattle.matrix.specs.declared.Words.{Words}
 use Rattle.matrix.specs.Triples.{words_of_codes, codes_of_words}
-use Rattle.check_records.specs.Records.{u16_at, u32_at}
+use Rattle.check_records.specs.Records.{due, u16_at, u32_at}
 use Rattle.check_samples.specs.Samples.{words_in, codes_in}
 use Rattle.check_triples.specs.declared.codes.Case.{Case as CodesCase}
 use Rattle.check_triples.specs.declared.words.Case.{Case as WordsCase}
@@ -23,7 +23,7 @@ same_codes c d = eqb c.r d.r && (eqb c.g d.g && eqb c.b d.b)
 -- codes to words: the record of 20 bytes at a place, with the words and moved count that are due, or the number of the refusal where
 -- that is not 0
 abbrev pub words_due : List ℕ → ℕ → Result Limited ℕ
-words_due bs i = let n = u16_at bs (i + 4) in cond (eqb n 0) (Ok (record { words = words_in bs (i + 12); moved = u16_at bs (i + 18) })) (Err n)
+words_due bs i = due (u16_at bs (i + 4)) (record { words = words_in bs (i + 12); moved = u16_at bs (i + 18) })
 
 abbrev pub words_case : List ℕ → ℕ → WordsCase
 words_case bs i = record { system = u32_at bs i; codes = codes_in bs (i + 6); due = words_due bs i }
@@ -42,8 +42,7 @@ words_met e c = words_agree (words_of_codes c.system e c.codes) c.due
 -- not 0
 abbrev pub codes_due : List ℕ → ℕ → Result Clipped ℕ
 codes_due bs i =
-    let n = u16_at bs (i + 4) in
-    cond (eqb n 0) (Ok (record { codes = codes_in bs (i + 12); clips = record { low = u16_at bs (i + 18); high = u16_at bs (i + 20) } })) (Err n)
+    due (u16_at bs (i + 4)) (record { codes = codes_in bs (i + 12); clips = record { low = u16_at bs (i + 18); high = u16_at bs (i + 20) } })
 
 abbrev pub codes_case : List ℕ → ℕ → CodesCase
 codes_case bs i = record { system = u32_at bs i; words = words_in bs (i + 6); due = codes_due bs i }

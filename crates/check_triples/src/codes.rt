@@ -3,7 +3,7 @@ ghost use Rattle.std.specs.Prelude.{◌+◌, ◌≡◌, ◌≤◌, length};
 ghost use Rattle.check_records.specs.Records.{tally_of};
 ghost use Rattle.check_triples.specs.Cases.{codes_case, codes_due, codes_met, codes_at};
 
-use check_records::{Tally, u16_at, u32_at};
+use check_records::{Tally, due, u16_at, u32_at};
 use check_samples::{codes_at, words_at};
 use matrix::{Clipped, Clips, Words};
 use systems::Refusal;
@@ -38,16 +38,15 @@ fn due_at(records: &[u8], at: usize) -> Result<Clipped, u32>
     requires { at + 22 ≤ length records.now }
     ensures { result ≡ codes_due records.now at }
 {
-    match u16_at(records, at + 4) {
-        0 => Ok(Clipped {
-            codes: codes_at(records, at + 12),
-            clips: Clips {
-                low: u16_at(records, at + 18),
-                high: u16_at(records, at + 20),
-            },
-        }),
-        refusal => Err(u32::from(refusal)),
-    }
+    let clips = Clips {
+        low: u16_at(records, at + 18),
+        high: u16_at(records, at + 20),
+    };
+    let clipped = Clipped {
+        codes: codes_at(records, at + 12),
+        clips,
+    };
+    due(u32::from(u16_at(records, at + 4)), clipped)
 }
 
 impl Case {

@@ -9,7 +9,7 @@ use check_records::Tally;
 use matrix::{Encoding, Words};
 use systems::Codes;
 
-// Levels a side.
+// Levels a side. check_zimg has such a grid of 20 in each system: steps of 219/39 and 219s/19 stay as the scripts have them.
 const LEVELS: usize = 40;
 
 // Compares the words of each triple on the grid with its record.

@@ -3,7 +3,7 @@ ghost use Rattle.std.specs.Prelude.{◌+◌, ◌≡◌, ◌≤◌, length};
 ghost use Rattle.check_records.specs.Records.{tally_of};
 ghost use Rattle.check_triples.specs.Cases.{words_case, words_due, words_met, words_at};
 
-use check_records::{Tally, u16_at, u32_at};
+use check_records::{Tally, due, u16_at, u32_at};
 use check_samples::{codes_at, words_at};
 use matrix::{Encoding, Limited};
 use systems::{Codes, Refusal};
@@ -40,13 +40,11 @@ fn due_at(records: &[u8], at: usize) -> Result<Limited, u32>
     requires { at + 20 ≤ length records.now }
     ensures { result ≡ words_due records.now at }
 {
-    match u16_at(records, at + 4) {
-        0 => Ok(Limited {
-            words: words_at(records, at + 12),
-            moved: u32::from(u16_at(records, at + 18)),
-        }),
-        refusal => Err(u32::from(refusal)),
-    }
+    let limited = Limited {
+        words: words_at(records, at + 12),
+        moved: u32::from(u16_at(records, at + 18)),
+    };
+    due(u32::from(u16_at(records, at + 4)), limited)
 }
 
 impl Case {

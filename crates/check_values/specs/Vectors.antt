@@ -175,6 +175,11 @@ code_refused n c t =
 unfoldable pub codes_refused : ℕ → Tally → Tally
 codes_refused n t = code_refused n 65535 (code_refused n 0 (code_refused n (235 * scale_of n + 1) (code_refused n (16 * scale_of n - 1) t)))
 
+-- those of the first n systems
+unfoldable pub codes_to : ℕ → Tally
+codes_to zero = none
+codes_to (suc n) = codes_refused (suc n) (codes_to n)
+
 -- an unknown system is refused with 1, also where a code or a signal is wrong too
 unfoldable pub system_refused : ℕ → Tally → Tally
 system_refused n t =
@@ -188,4 +193,4 @@ system_refused n t =
     (refused_with (signal_codes n (signals nan nan nan)) 1)
 
 abbrev pub refusals_tally : Tally
-refusals_tally = system_refused 4294967295 (system_refused 5 (system_refused 0 (codes_refused 4 (codes_refused 3 (codes_refused 2 (codes_refused 1 none))))))
+refusals_tally = system_refused 4294967295 (system_refused 5 (system_refused 0 (codes_to 4)))

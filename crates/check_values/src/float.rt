@@ -15,6 +15,7 @@ pub fn from_bits(bits: u32) -> f32
     }
 }
 
+// A function and no constant: the proof of `from_bits` cites its clause, which has a proof of its own.
 pub fn not_a_number() -> f32
     ensures { result ≡ nan }
 {

@@ -8,6 +8,7 @@ use check_records::{Tally, u16_at};
 use light::Span;
 
 // Compares the span of each code with its record.
+// A loop of its own: it carries a place from record to record, which `compare` of check_records does not.
 #[tactic(auto, unfolding(check_records::specs::Records::tally_to, crate::specs::Vectors::place_at))]
 pub fn compare_spans(records: &[u8]) -> Tally
     ensures { result ≡ tally_of 4 span_at records.now }
@@ -23,6 +24,7 @@ pub fn compare_spans(records: &[u8]) -> Tally
 
 // Compares the code of each light with the record whose span holds it. In each system the spans have to follow one another from
 // light 0, so that each light is compared once.
+// A loop of its own: it carries a place from record to record, which `compare` of check_records does not.
 #[tactic(auto, unfolding(crate::specs::Vectors::lights_to, crate::specs::Vectors::first_at, crate::specs::Vectors::place_at))]
 pub fn compare_lights(records: &[u8]) -> Tally
     ensures { result ≡ ended (lights_to records.now (length records.now / 4)) (length records.now % 4) }

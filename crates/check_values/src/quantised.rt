@@ -20,6 +20,7 @@ struct Case {
 const SIGNAL: u32 = 7;
 
 // Compares the answers for each record with its signal as R', as G' and as B'.
+// A loop of its own: each record counts as three comparisons, which by `compare` of check_records is one.
 #[tactic(auto, unfolding(crate::specs::Vectors::signals_to))]
 pub fn compare(records: &[u8]) -> Tally
     ensures { result ≡ ended (signals_to records.now (length records.now / 8)) (length records.now % 8) }

@@ -7,14 +7,15 @@ use crate::{float, triple};
 use check_records::Tally;
 use systems::Refusal;
 
+#[tactic(auto, unfolding(crate::specs::Vectors::codes_to))]
 pub fn compare() -> Tally
     ensures { result ≡ refusals_tally }
 {
-    let codes = compare_codes(
-        4,
-        compare_codes(3, compare_codes(2, compare_codes(1, Tally::NONE))),
-    );
-    compare_system(4294967295, compare_system(5, compare_system(0, codes)))
+    let mut codes = Tally::NONE;
+    for system in 1..5 {
+        codes = compare_codes(system, codes);
+    }
+    compare_system(u32::MAX, compare_system(5, compare_system(0, codes)))
 }
 
 // The codes next to the nominal range and the ends of all codes are refused with 6.
@@ -74,7 +75,7 @@ fn compare_system(system: u32, tally: Tally) -> Tally
         ))
 }
 
-// Whether a call refuses with this number.
+// Whether a call refuses with this number: the data's, which our refusals' numbers are compared with.
 fn is_refused<T: Drop>(answer: Result<T, Refusal>, number: u32) -> bool
     ensures { result ≡ refused_with (outcome answer) number }
 {

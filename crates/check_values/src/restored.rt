@@ -23,6 +23,7 @@ struct Bits {
 }
 
 // Compares the signals of each code with its record, with the code as R', as G' and as B'.
+// A loop of its own: it carries a place from record to record, which `compare` of check_records does not.
 #[tactic(auto, unfolding(crate::specs::Vectors::restored_to, crate::specs::Vectors::place_at))]
 pub fn compare(records: &[u8]) -> Tally
     ensures { result ≡ ended (restored_to records.now (length records.now / 4)) (length records.now % 4) }

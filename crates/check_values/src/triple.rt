@@ -1,4 +1,4 @@
-// Triples by their components.
+// Triples by their components, in one line: a literal takes five.
 ghost use Rattle.std.specs.Prelude.{◌≡◌};
 ghost use Rattle.check_values.specs.Vectors.{codes, signals};
 

@@ -7,7 +7,8 @@ use Rattle.matrix.specs.declared.Encoding.TheVariants.{Plain}
 use Rattle.matrix.specs.declared.Limited.{Limited}
 use Rattle.matrix.specs.declared.Words.{Words}
 use Rattle.matrix.specs.Triples.{words_of_codes, codes_of_words}
-use Rattle.check_records.specs.Records.{u16_at, none, tallied, scale_of}
+use Rattle.check_records.specs.Records.{none, tallied, scale_of}
+use Rattle.check_samples.specs.Samples.{words_in, codes_in}
 use Rattle.check_zimg.specs.declared.comparison.Comparison.{Comparison}
 use Rattle.check_zimg.specs.declared.nearness.Nearness.{Nearness}
 use Rattle.check_zimg.specs.declared.sample.Sample.{Sample}
@@ -18,13 +19,6 @@ level n i = 16 * scale_of n + 219 * scale_of n * (i % 20) / 19
 
 abbrev pub grid_codes : ℕ → ℕ → Codes
 grid_codes n i = record { r = level n (i / 400); g = level n (i / 20); b = level n i }
-
--- three numbers from a place on
-abbrev pub words_in : List ℕ → ℕ → Words
-words_in bs i = record { y = u16_at bs i; cb = u16_at bs (i + 2); cr = u16_at bs (i + 4) }
-
-abbrev pub codes_in : List ℕ → ℕ → Codes
-codes_in bs i = record { r = u16_at bs i; g = u16_at bs (i + 2); b = u16_at bs (i + 4) }
 
 -- sample i: the codes that zimg was given, its words, and its codes of these words
 abbrev pub sample_at : ℕ → List ℕ → ℕ → Sample

@@ -18,7 +18,7 @@ pub struct Comparison {
     pub clipped: Tally,
 }
 
-// Compares each sample of the records.
+// Compares each sample of the records. A loop of its own: it has five tallies, and `compare` of check_records has one.
 #[tactic(auto, unfolding(crate::specs::Samples::compared_to))]
 pub fn compare(system: u32, records: &[u8]) -> Comparison
     ensures { result ≡ comparison_of system records.now }
@@ -67,7 +67,7 @@ impl Comparison {
     }
 }
 
-// Words and codes have a function each: as arrays of three they read no plainer.
+// Words and codes have a function each: their components have names of their own, and as arrays of three they read no plainer.
 fn with_words(found: Nearness, ours: Result<Limited, Refusal>, theirs: Words) -> Nearness
     ensures { result ≡ words_near (outcome ours) found theirs }
 {
@@ -80,7 +80,6 @@ fn with_words(found: Nearness, ours: Result<Limited, Refusal>, theirs: Words) ->
     }
 }
 
-// A function of its own: the components of words and of codes have names of their own, and as arrays they read no plainer.
 fn with_codes(found: Nearness, ours: Result<Clipped, Refusal>, theirs: Codes) -> Nearness
     ensures { result ≡ codes_near (outcome ours) found theirs }
 {

@@ -1,16 +1,16 @@
 // The samples of a file: the R', G' and B' codes that zimg was given, and the record of what it made of them, Y', Cb, Cr, and R',
 // G', B' of these words.
 ghost use Rattle.std.specs.Prelude.{◌≡◌, ◌+◌, ◌*◌, ◌≤◌, length};
-ghost use Rattle.check_zimg.specs.Samples.{level, grid_codes, words_in, codes_in, sample_at};
+ghost use Rattle.check_zimg.specs.Samples.{level, grid_codes, sample_at};
 
-use check_records::u16_at;
+use check_samples::{codes_at, words_at};
 use matrix::Words;
 use systems::Codes;
 
 // A record's bytes.
 pub const BYTES: usize = 12;
 
-// Levels a side.
+// Levels a side. check_triples has such a grid of 40 in system 1: steps of 219/39 and 219s/19 stay as the scripts have them.
 const LEVELS: usize = 20;
 
 #[derive(Clone, Copy)]
@@ -52,27 +52,5 @@ fn level(system: u32, i: usize) -> u16
         1 => (16 + 219 * i / 19) as u16,
         2 | 3 => (64 + 876 * i / 19) as u16,
         _ => (256 + 3504 * i / 19) as u16,
-    }
-}
-
-fn words_at(records: &[u8], at: usize) -> Words
-    requires { at + 6 ≤ length records.now }
-    ensures { result ≡ words_in records.now at }
-{
-    Words {
-        y: u16_at(records, at),
-        cb: u16_at(records, at + 2),
-        cr: u16_at(records, at + 4),
-    }
-}
-
-fn codes_at(records: &[u8], at: usize) -> Codes
-    requires { at + 6 ≤ length records.now }
-    ensures { result ≡ codes_in records.now at }
-{
-    Codes {
-        r: u16_at(records, at),
-        g: u16_at(records, at + 2),
-        b: u16_at(records, at + 4),
     }
 }

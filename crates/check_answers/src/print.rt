@@ -16,8 +16,8 @@ pub fn print_each<F: Fn(u32) -> Tally>(
     requires { F.IsAlwaysCallable compare }
 {
     for number in answers {
-        let check = format!(in rt.alloc(); "{before}{}{after}:", Answer(*number))?;
-        compare(*number).print(rt, &check)?;
+        let tally = compare(*number);
+        println!(rt; "{before}{}{after}: {tally}", Answer(*number))?;
     }
     Ok(())
 }

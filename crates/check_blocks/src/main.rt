@@ -5,17 +5,31 @@
 mod cases;
 mod slice;
 
+use arrayvec::ArrayVec;
 use check_answers::print_each;
 use std::io;
+
+// A file of so many bytes or more is not read.
+const MOST: usize = 524288;
 
 // The numbers of the answers that the cases have.
 const ANSWERS: [u32; 8] = [0, 1, 5, 6, 8, 9, 10, 11];
 
 fn main(rt: HostRuntime) -> io::Result<()> {
-    let cases = check_records::read(&rt, "cases", 524288);
-    print_each(&rt, "", &ANSWERS, "", |number| {
+    check_cases(&rt)?;
+    check_clipped(&rt)
+}
+
+fn check_cases(rt: &HostRuntime) -> io::Result<()> {
+    let mut cases = ArrayVec::<u8, MOST>::new();
+    check_records::read(rt, "cases", &mut cases);
+    print_each(rt, "", &ANSWERS, "", |number| {
         cases::compare(&cases, number)
-    })?;
-    let clipped = check_records::read(&rt, "clipped", 524288);
-    cases::compare(&clipped, 0).print(&rt, "accepted, clipped:")
+    })
+}
+
+fn check_clipped(rt: &HostRuntime) -> io::Result<()> {
+    let mut clipped = ArrayVec::<u8, MOST>::new();
+    check_records::read(rt, "clipped", &mut clipped);
+    cases::compare(&clipped, 0).print(rt, "accepted, clipped:")
 }

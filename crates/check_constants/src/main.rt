@@ -6,6 +6,7 @@ mod codes;
 mod fields;
 mod words;
 
+use arrayvec::ArrayVec;
 use std::io;
 
 // A file of so many bytes or more is not read.
@@ -20,11 +21,13 @@ fn main(rt: HostRuntime) -> io::Result<()> {
 
 // A function for each comparison: two lines, which a closure would not shorten.
 fn check_words(rt: &HostRuntime, file: &str, check: &str) -> io::Result<()> {
-    let records = check_records::read(rt, file, MOST);
+    let mut records = ArrayVec::<u8, MOST>::new();
+    check_records::read(rt, file, &mut records);
     words::compare(&records).print(rt, check)
 }
 
 fn check_codes(rt: &HostRuntime, file: &str, check: &str) -> io::Result<()> {
-    let records = check_records::read(rt, file, MOST);
+    let mut records = ArrayVec::<u8, MOST>::new();
+    check_records::read(rt, file, &mut records);
     codes::compare(&records).print(rt, check)
 }

@@ -5,6 +5,7 @@
 mod buffer;
 mod cases;
 
+use arrayvec::ArrayVec;
 use check_answers::print_each;
 use std::io;
 
@@ -23,7 +24,8 @@ fn main(rt: HostRuntime) -> io::Result<()> {
 
 // Compares the cases of a file. The lines name the answer that is due, and of what it is.
 fn check(rt: &HostRuntime, path: &str, answers: &[u32], of: &str) -> io::Result<()> {
-    let cases = check_records::read(rt, path, 524288);
+    let mut cases = ArrayVec::<u8, 524288>::new();
+    check_records::read(rt, path, &mut cases);
     print_each(rt, "", answers, of, |number| {
         cases::compare(&cases, number)
     })

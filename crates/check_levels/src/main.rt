@@ -4,14 +4,25 @@
 
 mod case;
 
+use arrayvec::ArrayVec;
 use std::io;
 
 // A file of so many bytes or more is not read.
 const MOST: usize = 131072;
 
 fn main(rt: HostRuntime) -> io::Result<()> {
-    let codes = check_records::read(&rt, "codes", MOST);
-    case::compare_codes(&codes).print(&rt, "codes")?;
-    let differences = check_records::read(&rt, "differences", MOST);
-    case::compare_differences(&differences).print(&rt, "differences")
+    check_codes(&rt)?;
+    check_differences(&rt)
+}
+
+fn check_codes(rt: &HostRuntime) -> io::Result<()> {
+    let mut codes = ArrayVec::<u8, MOST>::new();
+    check_records::read(rt, "codes", &mut codes);
+    case::compare_codes(&codes).print(rt, "codes")
+}
+
+fn check_differences(rt: &HostRuntime) -> io::Result<()> {
+    let mut differences = ArrayVec::<u8, MOST>::new();
+    check_records::read(rt, "differences", &mut differences);
+    case::compare_differences(&differences).print(rt, "differences")
 }

@@ -5,6 +5,7 @@
 mod list;
 mod read;
 
+use arrayvec::ArrayVec;
 use check_answers::print_each;
 use std::io;
 
@@ -12,8 +13,10 @@ use std::io;
 const ANSWERS: [u32; 8] = [0, 1, 5, 6, 8, 9, 10, 11];
 
 fn main(rt: HostRuntime) -> io::Result<()> {
-    let blocks = check_records::read(&rt, "blocks", 262144);
-    let reads = check_records::read(&rt, "reads", 131072);
+    let mut blocks = ArrayVec::<u8, 262144>::new();
+    check_records::read(&rt, "blocks", &mut blocks);
+    let mut reads = ArrayVec::<u8, 131072>::new();
+    check_records::read(&rt, "reads", &mut reads);
     print_each(&rt, "", &ANSWERS, "", |number| {
         list::compare(&reads, &blocks, number)
     })

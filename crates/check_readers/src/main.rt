@@ -6,6 +6,7 @@ mod call;
 mod left;
 mod list;
 
+use arrayvec::ArrayVec;
 use check_answers::print_each;
 use std::io;
 
@@ -13,8 +14,10 @@ use std::io;
 const ANSWERS: [u32; 12] = [0, 1, 3, 5, 6, 8, 9, 10, 11, 34, 35, 36];
 
 fn main(rt: HostRuntime) -> io::Result<()> {
-    let blocks = check_records::read(&rt, "blocks", 262144);
-    let calls = check_records::read(&rt, "calls", 131072);
+    let mut blocks = ArrayVec::<u8, 262144>::new();
+    check_records::read(&rt, "blocks", &mut blocks);
+    let mut calls = ArrayVec::<u8, 131072>::new();
+    check_records::read(&rt, "calls", &mut calls);
     print_each(&rt, "", &ANSWERS, "", |number| {
         list::compare(&calls, &blocks, number)
     })

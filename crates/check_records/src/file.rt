@@ -1,24 +1,27 @@
 // The files of data/, which the scripts of reference/ make, and the numbers in them.
-ghost use Rattle.std.specs.Prelude.{◌+◌, ◌≡◌, ◌≤◌, length, vec_len};
+ghost use Rattle.std.specs.Prelude.{◌+◌, ◌≡◌, ◌≤◌, length};
+ghost use Rattle.arrayvec.specs.ArrayVec.{array_vec_len};
 ghost use Rattle.check_records.specs.Records.{due, u16_at, u32_at};
 
-use std::fs;
+use arrayvec::ArrayVec;
 use std::io::Read;
 use std::rt::Files;
+use std::{fs, io};
 
-// A file's bytes: none where it does not open, or has `most` bytes or more. A read that fails ends them, as the file's end does.
-pub fn read<R: Files + AllocGlobal>(rt: &R, path: &str, most: usize) -> Vec<u8>
-    ensures { vec_len result ≤ most }
+// Reads a file's bytes: none where it does not open, or has MOST bytes or more. A read that fails ends them, as the file's end does.
+// Into an array and no Vec: that bytes are missing where memory runs out would show as fewer comparisons alone. It is lent, so that
+// it is not copied.
+pub fn read<const MOST: usize, R: Files>(rt: &R, path: &str, bytes: &mut ArrayVec<u8, MOST>)
+    ensures { array_vec_len bytes.new ≤ MOST }
 {
-    let mut bytes = Vec::new(rt.alloc());
+    bytes.clear();
     let Ok(file) = fs::open(rt, path) else {
-        return bytes;
+        return;
     };
-    let _ = file.take(most as u64).read_to_end(&mut bytes);
-    if bytes.len() >= most {
+    let _ = io::copy(&mut file.take(MOST as u64), bytes);
+    if bytes.is_full() {
         bytes.clear();
     }
-    bytes
 }
 
 // The 16-bit number at a place, low byte first.

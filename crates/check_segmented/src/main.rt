@@ -6,6 +6,7 @@ mod lengths;
 mod moving;
 mod rows;
 
+use arrayvec::ArrayVec;
 use segmented::Order;
 use std::io;
 
@@ -18,12 +19,14 @@ fn main(rt: HostRuntime) -> io::Result<()> {
 }
 
 fn check_lengths(rt: &HostRuntime) -> io::Result<()> {
-    let records = check_records::read(rt, "lengths", 4096);
+    let mut records = ArrayVec::<u8, 4096>::new();
+    check_records::read(rt, "lengths", &mut records);
     lengths::compare(&records, Order::Segmented).print(rt, "lengths, to segmented:")?;
     lengths::compare(&records, Order::Progressive).print(rt, "lengths, to progressive:")
 }
 
 fn check_rows(rt: &HostRuntime, file: &str, check: &str) -> io::Result<()> {
-    let rows = check_records::read(rt, file, 16384);
+    let mut rows = ArrayVec::<u8, 16384>::new();
+    check_records::read(rt, file, &mut rows);
     rows::compare(&rows).print(rt, check)
 }

@@ -6,6 +6,7 @@ mod codes;
 mod grid;
 mod words;
 
+use arrayvec::ArrayVec;
 use matrix::Encoding;
 use std::io;
 use std::rt::Files;
@@ -19,35 +20,48 @@ const MOST_REFUSALS: usize = 4096;
 
 fn main(rt: HostRuntime) -> io::Result<()> {
     check_grid(&rt)?;
-    check_words(&rt)?;
+    check_words(&rt, Encoding::Plain, "words", "words")?;
+    check_words(&rt, Encoding::Trim, "trimmed", "words trimmed")?;
+    // The answers with the guard before trim: those with a colour word beyond video data differ.
+    check_words(
+        &rt,
+        Encoding::Trim,
+        "formerly_trimmed",
+        "words formerly trimmed",
+    )?;
     check_codes(&rt)?;
     check_refusals(&rt)
 }
 
-fn check_grid(rt: &(impl Files + AllocGlobal + Print)) -> io::Result<()> {
-    let grid = check_records::read(rt, "grid", MOST_WORDS);
+fn check_grid(rt: &(impl Files + Print)) -> io::Result<()> {
+    let mut grid = ArrayVec::<u8, MOST_WORDS>::new();
+    check_records::read(rt, "grid", &mut grid);
     grid::compare(&grid).print(rt, "grid")
 }
 
-fn check_words(rt: &(impl Files + AllocGlobal + Print)) -> io::Result<()> {
-    let plain = check_records::read(rt, "words", MOST_WORDS);
-    words::compare(Encoding::Plain, &plain).print(rt, "words")?;
-    let trimmed = check_records::read(rt, "trimmed", MOST_WORDS);
-    words::compare(Encoding::Trim, &trimmed).print(rt, "words trimmed")?;
-    // The answers with the guard before trim: those with a colour word beyond video data differ.
-    let formerly = check_records::read(rt, "formerly_trimmed", MOST_WORDS);
-    words::compare(Encoding::Trim, &formerly).print(rt, "words formerly trimmed")
+fn check_words(
+    rt: &(impl Files + Print),
+    encoding: Encoding,
+    file: &str,
+    check: &str,
+) -> io::Result<()> {
+    let mut words = ArrayVec::<u8, MOST_WORDS>::new();
+    check_records::read(rt, file, &mut words);
+    words::compare(encoding, &words).print(rt, check)
 }
 
-fn check_codes(rt: &(impl Files + AllocGlobal + Print)) -> io::Result<()> {
-    let codes = check_records::read(rt, "codes", MOST_CODES);
+fn check_codes(rt: &(impl Files + Print)) -> io::Result<()> {
+    let mut codes = ArrayVec::<u8, MOST_CODES>::new();
+    check_records::read(rt, "codes", &mut codes);
     codes::compare(&codes).print(rt, "codes")
 }
 
-fn check_refusals(rt: &(impl Files + AllocGlobal + Print)) -> io::Result<()> {
-    let words = check_records::read(rt, "words_refused", MOST_REFUSALS);
+fn check_refusals(rt: &(impl Files + Print)) -> io::Result<()> {
+    let mut words = ArrayVec::<u8, MOST_REFUSALS>::new();
+    check_records::read(rt, "words_refused", &mut words);
     words::compare(Encoding::Plain, &words).print(rt, "words refused")?;
     words::compare(Encoding::Trim, &words).print(rt, "trimmed refused")?;
-    let codes = check_records::read(rt, "codes_refused", MOST_REFUSALS);
+    let mut codes = ArrayVec::<u8, MOST_REFUSALS>::new();
+    check_records::read(rt, "codes_refused", &mut codes);
     codes::compare(&codes).print(rt, "codes refused")
 }

@@ -10,6 +10,7 @@ mod refusals;
 mod restored;
 mod triple;
 
+use arrayvec::ArrayVec;
 use std::io;
 use std::rt::Files;
 
@@ -25,18 +26,21 @@ fn main(rt: HostRuntime) -> io::Result<()> {
     refusals::compare().print(&rt, "refusals")
 }
 
-fn check_spans(rt: &(impl Files + AllocGlobal + Print)) -> io::Result<()> {
-    let spans = check_records::read(rt, "spans", MOST_OF_CODES);
+fn check_spans(rt: &(impl Files + Print)) -> io::Result<()> {
+    let mut spans = ArrayVec::<u8, MOST_OF_CODES>::new();
+    check_records::read(rt, "spans", &mut spans);
     lights::compare_lights(&spans).print(rt, "lights")?;
     lights::compare_spans(&spans).print(rt, "spans")
 }
 
-fn check_signals(rt: &(impl Files + AllocGlobal + Print)) -> io::Result<()> {
-    let signals = check_records::read(rt, "signals", MOST_SIGNALS);
+fn check_signals(rt: &(impl Files + Print)) -> io::Result<()> {
+    let mut signals = ArrayVec::<u8, MOST_SIGNALS>::new();
+    check_records::read(rt, "signals", &mut signals);
     quantised::compare(&signals).print(rt, "signals")
 }
 
-fn check_restored(rt: &(impl Files + AllocGlobal + Print)) -> io::Result<()> {
-    let restored = check_records::read(rt, "restored", MOST_OF_CODES);
+fn check_restored(rt: &(impl Files + Print)) -> io::Result<()> {
+    let mut restored = ArrayVec::<u8, MOST_OF_CODES>::new();
+    check_records::read(rt, "restored", &mut restored);
     restored::compare(&restored).print(rt, "restored")
 }

@@ -6,6 +6,7 @@ mod comparison;
 mod nearness;
 mod sample;
 
+use arrayvec::ArrayVec;
 use check_records::Tally;
 use std::io;
 use std::rt::Files;
@@ -20,8 +21,9 @@ fn main(rt: HostRuntime) -> io::Result<()> {
     check(&rt, 4, "system4")
 }
 
-fn check(rt: &(impl Files + AllocGlobal + Print), system: u32, name: &str) -> io::Result<()> {
-    let records = check_records::read(rt, name, MOST);
+fn check(rt: &(impl Files + Print), system: u32, name: &str) -> io::Result<()> {
+    let mut records = ArrayVec::<u8, MOST>::new();
+    check_records::read(rt, name, &mut records);
     let found = comparison::compare(system, &records);
     print(rt, system, found.words.same, "words")?;
     print(rt, system, found.words.near, "words within one")?;

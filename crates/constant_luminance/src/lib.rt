@@ -9,7 +9,7 @@ ghost use Rattle.matrix.specs.Inner.{TwelveBitWords};
 ghost use Rattle.constant_luminance.specs.ConstantLuminance.{base, Names, luminance, blue, red, divisor, difference, luma_of, words_at, words_of_lights, primary, codes_at, codes_of_words};
 ghost use Rattle.constant_luminance.specs.Inner.{Sized};
 
-use luminance::{Thresholds, code_in};
+use luminance::{Thresholds, code_by};
 use luminance_10::Bits10;
 use luminance_12::Bits12;
 use matrix::{Clips, Words};
@@ -163,7 +163,7 @@ fn luma_in<T: Thresholds>(y: System, lights: Lights) -> u16
     requires { y ≡ T.system }
     ensures { result ≡ luma_of y lights }
 {
-    code_in::<T>(y, luminance(lights))
+    code_by::<T>(y, luminance(lights))
 }
 
 // R' or B': a light's own code is that of its luminance alone.
@@ -172,7 +172,7 @@ fn component_in<T: Thresholds>(y: System, light: u16) -> u16
     requires { y ≡ T.system }
     ensures { result ≡ code y light }
 {
-    code_in::<T>(y, ONE * u32::from(light))
+    code_by::<T>(y, ONE * u32::from(light))
 }
 
 // The luminance of a triple of light: the exact sum, which nothing rounds.

@@ -31,6 +31,15 @@ pub record Index (q : Quantiser) (w : ℕ) (x : List ℕ) : Type 0 where
   pub from : (k : ℕ) → k ≤ q.full → q.first + get_or x (k / w) 0 ≤ q.code k
   pub to : (k : ℕ) → k ≤ q.full → q.code k ≤ q.first + get_or x (k / w) 0 + 2
 
+-- a table and its index, ready for the lookup of codes
+pub record Ready (q : Quantiser) (w : ℕ) (t x : List ℕ) : Type 0 where
+  pub boundaries : Boundaries q t
+  pub index : Index q w x
+
+-- ready for a system's codes, the light's bits above the lowest h being its place in the index
+abbrev pub ReadyFor : System → ℕ → List ℕ → List ℕ → Type 0
+ReadyFor y h t x = Ready (quantiser_of y) (2 ^ h) t x
+
 -- boundaries, and such an index, for every system of n bits
 abbrev pub BoundariesAt : ℕ → List ℕ → Type 0
 BoundariesAt n t = (y : System) → bits y ≡ n → Boundaries (quantiser_of y) t

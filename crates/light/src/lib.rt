@@ -7,7 +7,7 @@ ghost use Rattle.systems.specs.Refusals.{outcome};
 ghost use Rattle.curve.specs.Curve.{code};
 ghost use Rattle.light.specs.Light.{code_of_light, span, span_of_code};
 
-use curve::{Thresholds, code_in};
+use curve::{Thresholds, code_by};
 use systems::{Depth, Refusal, System};
 use thresholds_8::Bits8;
 use thresholds_10::Bits10;
@@ -45,9 +45,9 @@ fn code_of(y: System, light: u16) -> usize
     ensures { result ≡ code y light }
 {
     match y.depth() {
-        Depth::Bits8 => code_in::<Bits8>(y, light),
-        Depth::Bits10 => code_in::<Bits10>(y, light),
-        Depth::Bits12 => code_in::<Bits12>(y, light),
+        Depth::Bits8 => code_by::<Bits8>(y, light),
+        Depth::Bits10 => code_by::<Bits10>(y, light),
+        Depth::Bits12 => code_by::<Bits12>(y, light),
     }
 }
 

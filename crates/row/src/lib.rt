@@ -12,7 +12,7 @@ use block::{
     LUMA_COUNT, ROW_NUMBER, SYSTEM, cb_count, cb_word, cr_count, cr_word, luma_word, put_byte,
     put_field,
 };
-use curve::{Thresholds, code_in};
+use curve::{Thresholds, code_by};
 use matrix::{WideCodes, Words, words_in};
 use systems::{Depth, System};
 use thresholds_8::Bits8;
@@ -60,9 +60,9 @@ fn sample_codes<T: Thresholds>(y: System, i: usize, lights: &[u16]) -> WideCodes
     requires { (bits y ≡ T.bits) × (3 * i + 2 < length lights.now) × (i < 65536) }
     ensures { narrow result ≡ sample_codes y lights.now i }
 {
-    let r = code_in::<T>(y, lights[3 * i]);
-    let g = code_in::<T>(y, lights[3 * i + 1]);
-    let b = code_in::<T>(y, lights[3 * i + 2]);
+    let r = code_by::<T>(y, lights[3 * i]);
+    let g = code_by::<T>(y, lights[3 * i + 1]);
+    let b = code_by::<T>(y, lights[3 * i + 2]);
     WideCodes { r, g, b }
 }
 

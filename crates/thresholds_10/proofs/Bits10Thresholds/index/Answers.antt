@@ -6,6 +6,6 @@ use Rattle.curve.proofs.Lights.{rule, system_at, index_at}
 use Rattle.curve.proofs.Tests.{index, bucket}
 use Rattle.thresholds_10.proofs.Bits10Thresholds.index.Goals as goal
 
-pub returns : goal.returns
+pub returns-clause-index : goal.returns-clause-index
 unfolding bucket at_least dark on_line_at reaches
-returns c = index_at 10 5 (index (rule (system_at 10)) 32 _ (lit< tt) (lit≤ tt) (lit< tt) tt)
+returns-clause-index c = index_at 10 5 (index (rule (system_at 10)) 32 _ (lit< tt) (lit≤ tt) (lit< tt) tt)

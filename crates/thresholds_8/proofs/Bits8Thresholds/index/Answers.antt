@@ -6,6 +6,6 @@ use Rattle.curve.proofs.Lights.{rule, system_at, index_at}
 use Rattle.curve.proofs.Tests.{index, bucket}
 use Rattle.thresholds_8.proofs.Bits8Thresholds.index.Goals as goal
 
-pub returns : goal.returns
+pub returns-clause-index : goal.returns-clause-index
 unfolding bucket at_least dark on_line_at reaches
-returns c = index_at 8 7 (index (rule (system_at 8)) 128 _ (lit< tt) (lit≤ tt) (lit< tt) tt)
+returns-clause-index c = index_at 8 7 (index (rule (system_at 8)) 128 _ (lit< tt) (lit≤ tt) (lit< tt) tt)

@@ -1,7 +1,6 @@
 // Lists each input of data/, which reference/make_listings.py makes, as rowlist does, each under its file's name.
 #![tactic(auto)]
 
-use std::io::{BufWriter, Write};
 use std::rt::Files;
 use std::{fs, io};
 
@@ -18,14 +17,10 @@ fn main(rt: HostRuntime) -> io::Result<()> {
 }
 
 // A file that does not open is named on standard error, and the others are still listed.
-fn list(rt: &(impl Files + Print + Eprint + Alloc), name: &str) -> io::Result<()> {
+fn list(rt: &(impl Files + Print + Eprint), name: &str) -> io::Result<()> {
     println!(rt; "{name}:")?;
     match fs::open(rt, name) {
-        Ok(mut file) => {
-            let mut output = BufWriter::new(rt.alloc(), io::writer(rt))?;
-            listing::list(&mut file, &mut output)?;
-            output.flush()
-        }
+        Ok(mut file) => listing::list(&mut file, &mut io::writer(rt)),
         Err(e) => eprintln!(rt; "{name}: {e}"),
     }
 }

@@ -1,4 +1,3 @@
 pub mod Digits
 pub mod Listed
-pub mod Written
 pub mod Example

@@ -3,10 +3,7 @@
 #![tactic(auto)]
 
 use std::io;
-use std::io::{BufWriter, Write};
 
 fn main(rt: HostRuntime) -> io::Result<()> {
-    let mut output = BufWriter::new(rt.alloc(), rt.stdout())?;
-    listing::list(&mut rt.stdin(), &mut output)?;
-    output.flush()
+    listing::list(&mut rt.stdin(), &mut rt.stdout())
 }

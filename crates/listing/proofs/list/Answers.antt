@@ -14,5 +14,5 @@ pub returns : goal.returns
 returns g c =
     let bytes = c.copy.new.writer.items in
     let read = rw (c.take.ensures.limit, c.take.ensures.inner, c.new-bytes.ensures) at c.in_ok-copy.ensures.bytes in
-    let listed = rw c.as_slice.ensures.value at c.write_listing.ensures in
-    front_listed _ _ _ _ 46090 bytes read listed
+    let text = rw (c.as_slice-2.ensures.value, c.put_listing.ensures, c.new-text.ensures, c.as_slice.ensures.value) at c.write_all.ensures.bytes in
+    front_listed _ _ _ _ 46090 bytes read text

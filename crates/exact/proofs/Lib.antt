@@ -8,3 +8,4 @@ pub mod Machine
 pub mod Difference
 pub mod Nearest
 pub mod Lending
+pub mod TowardZero

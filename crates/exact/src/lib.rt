@@ -23,10 +23,10 @@ pub fn rounded(top: i64, bottom: i64) -> i64
     floor(2 * top + bottom, 2 * bottom)
 }
 
-// A ratio rounded down, also below 0.
+// A ratio rounded down, also below 0: one division and no branch, where `div_euclid` has a branch on the sign.
 pub fn floor(top: i64, bottom: i64) -> i64
     requires { (nat_abs top < 2 ^ 62) × (pos 0 <ℤ bottom) × (nat_abs bottom < 2 ^ 62) }
     ensures { result ≡ shr_z top (nat_abs bottom) }
 {
-    top.div_euclid(bottom)
+    top / bottom - i64::from(top % bottom < 0)
 }

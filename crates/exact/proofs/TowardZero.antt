@@ -13,7 +13,7 @@ use Rattle.exact.proofs.Difference.{pos_sub, neg_sub, sub_minus, sub_size}
 use Rattle.exact.proofs.Nearest.{floor_is}
 
 -- a quotient that leaves nothing below 0 is rounded down already
-rounded_down : (z : ℤ) (k : ℕ) → 0 < k → lt_z (rem_z z (pos k)) (pos 0) ≡ false → quot_z z (pos k) ≡ shr_z z k
+pub rounded_down : (z : ℤ) (k : ℕ) → 0 < k → lt_z (rem_z z (pos k)) (pos 0) ≡ false → quot_z z (pos k) ≡ shr_z z k
 rounded_down (pos a) k K e = refl
 rounded_down (negsuc a) k K e = by_rest (suc a % k) refl e
   where
@@ -24,7 +24,7 @@ rounded_down (negsuc a) k K e = by_rest (suc a % k) refl e
     by_rest (suc y) r t = absurd (false≢true (sym t))
 
 -- one that leaves something below 0 is one above that
-one_down : (z : ℤ) (k : ℕ) → 0 < k → lt_z (rem_z z (pos k)) (pos 0) ≡ true → quot_z z (pos k) -ℤ pos 1 ≡ shr_z z k
+pub one_down : (z : ℤ) (k : ℕ) → 0 < k → lt_z (rem_z z (pos k)) (pos 0) ≡ true → quot_z z (pos k) -ℤ pos 1 ≡ shr_z z k
 one_down (pos a) k K e = absurd (omega (arith, ltb-true (a % k) 0 e))
 one_down (negsuc a) k K e = by_rest (suc a % k) refl e
   where

@@ -6,8 +6,8 @@ use lib.Signed.{lt_z, quot_z, rem_z, mag_rem, ◌<ℤ◌}
 use mir.Syntax.{w64}
 use mir.Val.{SFits, to_z, of_z}
 use mir.ValLaws.{to_z-of_z, sfits_le}
+use Rattle.exact.proofs.Boolean.{bit_small}
 use Rattle.exact.proofs.Machine.{nat_abs_less, reads_back, positive}
-use Rattle.std.specs.Prelude.{Bool, true, false, ◌≤◌}
 use Rattle.std.specs.Int.{from_bool}
 use Rattle.exact.proofs.TowardZero.{floored, quotient_size}
 use Rattle.exact.proofs.floor.Goals as goal
@@ -29,10 +29,6 @@ rest_read : (z b : ℤ) → nat_abs z < 2 ^ 62 → SFits w64 z → pos 0 <ℤ b 
 rest_read z b h f p k =
     rw (reads_back z (omega (arith, h)), bottom_read b p k) (to_z-of_z w64 (rem_z z (pos (nat_abs b))) (sfits_le (mag_rem z (pos (nat_abs b))) f))
 
-flag_small : (t : Bool) → from_bool t ≤ 1
-flag_small true = omega arith
-flag_small false = omega arith
-
 pub returns : goal.returns
 returns c =
     let z = c.args.top in
@@ -41,8 +37,8 @@ returns c =
     let below = lt_z (rem_z z (pos k)) (pos 0) in
     let rest = rest_read z b c.requires.0 c.ranges.top c.requires.1 c.requires.2 in
     let flag : c.from.result ≡ pos (from_bool below) = c.from.ensures ∙ ap (λ (r : ℤ). pos (from_bool (lt_z r (pos 0)))) rest in
-    let flag_read : to_z w64 (of_z w64 c.from.result) ≡ pos (from_bool below) = ap (λ (r : ℤ). to_z w64 (of_z w64 r)) flag ∙ reads_back (pos (from_bool below)) (omega (arith, flag_small below)) in
+    let flag_read : to_z w64 (of_z w64 c.from.result) ≡ pos (from_bool below) = ap (λ (r : ℤ). to_z w64 (of_z w64 r)) flag ∙ reads_back (pos (from_bool below)) (omega (arith, bit_small below)) in
     let less = quot_z z (pos k) -ℤ pos (from_bool below) in
     rw (quotient_read z b c.requires.0 c.requires.1 c.requires.2, flag_read)
-    (reads_back less (omega (arith, nat_abs_less (quot_z z (pos k)) (pos (from_bool below)), small z b c.requires.0, flag_small below))
+    (reads_back less (omega (arith, nat_abs_less (quot_z z (pos k)) (pos (from_bool below)), small z b c.requires.0, bit_small below))
     ∙ floored z k (positive b c.requires.1).1)

@@ -33,6 +33,8 @@ fn main(rt: HostRuntime) -> io::Result<()> {
     check_refusals(&rt)
 }
 
+// Not inlined, so that its array and that of the codes do not stand on the stack at once.
+#[inline(never)]
 fn check_grid(rt: &(impl Files + Print)) -> io::Result<()> {
     let mut grid = ArrayVec::<u8, MOST_WORDS>::new();
     check_records::read(rt, "grid", &mut grid);

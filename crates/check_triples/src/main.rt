@@ -33,7 +33,7 @@ fn main(rt: HostRuntime) -> io::Result<()> {
     check_refusals(&rt)
 }
 
-// Not inlined, so that its array and that of the codes do not stand on the stack at once.
+// Not inlined, as check_words is not: else their arrays would stand on the stack beside that of the codes.
 #[inline(never)]
 fn check_grid(rt: &(impl Files + Print)) -> io::Result<()> {
     let mut grid = ArrayVec::<u8, MOST_WORDS>::new();
@@ -41,6 +41,7 @@ fn check_grid(rt: &(impl Files + Print)) -> io::Result<()> {
     grid::compare(&grid).print(rt, "grid")
 }
 
+#[inline(never)]
 fn check_words(
     rt: &(impl Files + Print),
     encoding: Encoding,

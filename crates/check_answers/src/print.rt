@@ -4,11 +4,10 @@ use crate::answer::Answer;
 use check_records::Tally;
 use std::io;
 
-// Writes the tally of each of these answers, which are numbers of the data's, in a line such as 'open refused 21, widest: 5
-// compared, 0 differ'. What stands before and after the answer says of what it is, and may be empty.
+// Writes the tally of each of these answers, which are numbers of the data's, in a line such as 'refused 33, widest: 5
+// compared, 0 differ'. What stands after the answer says of what it is, and may be empty.
 pub fn print_each<F: Fn(u32) -> Tally>(
     rt: &HostRuntime,
-    before: &str,
     answers: &[u32],
     after: &str,
     compare: F,
@@ -17,7 +16,7 @@ pub fn print_each<F: Fn(u32) -> Tally>(
 {
     for number in answers {
         let tally = compare(*number);
-        println!(rt; "{before}{}{after}: {tally}", Answer(*number))?;
+        println!(rt; "{}{after}: {tally}", Answer(*number))?;
     }
     Ok(())
 }

@@ -23,7 +23,7 @@ fn main(rt: HostRuntime) -> io::Result<()> {
 fn check_cases(rt: &HostRuntime) -> io::Result<()> {
     let mut cases = ArrayVec::<u8, MOST>::new();
     check_records::read(rt, "cases", &mut cases);
-    print_each(rt, "", &ANSWERS, "", |number| {
+    print_each(rt, &ANSWERS, "", |number| {
         cases::compare(&cases, number)
     })
 }

@@ -26,7 +26,5 @@ fn main(rt: HostRuntime) -> io::Result<()> {
 fn check(rt: &HostRuntime, path: &str, answers: &[u32], of: &str) -> io::Result<()> {
     let mut cases = ArrayVec::<u8, 524288>::new();
     check_records::read(rt, path, &mut cases);
-    print_each(rt, "", answers, of, |number| {
-        cases::compare(&cases, number)
-    })
+    print_each(rt, answers, of, |number| { cases::compare(&cases, number) })
 }

@@ -17,7 +17,7 @@ fn main(rt: HostRuntime) -> io::Result<()> {
     check_records::read(&rt, "blocks", &mut blocks);
     let mut reads = ArrayVec::<u8, 131072>::new();
     check_records::read(&rt, "reads", &mut reads);
-    print_each(&rt, "", &ANSWERS, "", |number| {
+    print_each(&rt, &ANSWERS, "", |number| {
         list::compare(&reads, &blocks, number)
     })
 }

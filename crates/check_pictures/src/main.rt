@@ -13,7 +13,7 @@ ghost use Rattle.std.specs.Prelude.{◌≡◌, ◌/◌, min, length};
 ghost use Rattle.check_pictures.specs.Calls.{lights_to};
 
 use arrayvec::ArrayVec;
-use check_answers::print_each;
+use check_answers::Answer;
 use check_records::u16_at;
 use kind::Kind;
 use list::Counted;
@@ -39,9 +39,9 @@ fn main(rt: HostRuntime) -> io::Result<()> {
         answer: 0,
     };
     list::compare(&calls, &lights, begun).print(&rt, "new:")?;
-    compare(&rt, &calls, &lights, Kind::Open, "open ", &OPEN)?;
-    compare(&rt, &calls, &lights, Kind::Row, "row ", &ROW)?;
-    compare(&rt, &calls, &lights, Kind::Close, "close ", &CLOSE)?;
+    compare(&rt, &calls, &lights, Kind::Open, &OPEN)?;
+    compare(&rt, &calls, &lights, Kind::Row, &ROW)?;
+    compare(&rt, &calls, &lights, Kind::Close, &CLOSE)?;
     let mut totals = ArrayVec::<u8, 16384>::new();
     check_records::read(&rt, "totals", &mut totals);
     total::compare(&totals).print(&rt, "totals:")
@@ -50,7 +50,7 @@ fn main(rt: HostRuntime) -> io::Result<()> {
 // The lights of the file 'lights', each of 2 bytes, of which each row is given a part.
 #[tactic(auto, unfolding(crate::specs::Calls::lights_to))]
 fn decode(bytes: &[u8]) -> ArrayVec<u16, MOST_LIGHTS>
-    ensures { result.items ≡ lights_to bytes.now (min 32768 (length bytes.now / 2)) }
+    ensures { result.items ≡ lights_to bytes.now (min MOST_LIGHTS (length bytes.now / 2)) }
 {
     let mut lights = ArrayVec::new();
     for i in 0..MOST_LIGHTS.min(bytes.len() / 2) {
@@ -65,10 +65,12 @@ fn compare(
     calls: &[u8],
     lights: &[u16],
     kind: Kind,
-    name: &str,
     answers: &[u32],
 ) -> io::Result<()> {
-    print_each(rt, name, answers, "", |answer| {
-        list::compare(calls, lights, Counted { kind, answer })
-    })
+    for number in answers {
+        let answer = *number;
+        let tally = list::compare(calls, lights, Counted { kind, answer });
+        println!(rt; "{kind} {}: {tally}", Answer(answer))?;
+    }
+    Ok(())
 }

@@ -18,7 +18,7 @@ fn main(rt: HostRuntime) -> io::Result<()> {
     check_records::read(&rt, "blocks", &mut blocks);
     let mut calls = ArrayVec::<u8, 131072>::new();
     check_records::read(&rt, "calls", &mut calls);
-    print_each(&rt, "", &ANSWERS, "", |number| {
+    print_each(&rt, &ANSWERS, "", |number| {
         list::compare(&calls, &blocks, number)
     })
 }

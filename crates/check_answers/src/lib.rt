@@ -2,11 +2,13 @@
 #![tactic(auto)]
 
 mod answer;
+mod behind;
 mod due;
 mod part;
 mod print;
 
 pub use answer::{Answer, number_of};
+pub use behind::print_each;
 pub use due::{Due, agrees};
 pub use part::Part;
-pub use print::print_each;
+pub use print::print_answers;

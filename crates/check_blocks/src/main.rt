@@ -6,7 +6,7 @@ mod cases;
 mod slice;
 
 use arrayvec::ArrayVec;
-use check_answers::print_each;
+use check_answers::print_answers;
 use std::io;
 
 // A file of so many bytes or more is not read.
@@ -22,14 +22,14 @@ fn main(rt: HostRuntime) -> io::Result<()> {
 
 fn check_cases(rt: &HostRuntime) -> io::Result<()> {
     let mut cases = ArrayVec::<u8, MOST>::new();
-    check_records::read(rt, "cases", &mut cases);
-    print_each(rt, &ANSWERS, "", |number| {
+    check_records::read_into(rt, "cases", &mut cases);
+    print_answers(rt, &ANSWERS, "", |number| {
         cases::compare(&cases, number)
     })
 }
 
 fn check_clipped(rt: &HostRuntime) -> io::Result<()> {
     let mut clipped = ArrayVec::<u8, MOST>::new();
-    check_records::read(rt, "clipped", &mut clipped);
+    check_records::read_into(rt, "clipped", &mut clipped);
     cases::compare(&clipped, 0).print(rt, "accepted, clipped:")
 }

@@ -22,12 +22,12 @@ fn main(rt: HostRuntime) -> io::Result<()> {
 // A function for each comparison: two lines, which a closure would not shorten.
 fn check_words(rt: &HostRuntime, file: &str, check: &str) -> io::Result<()> {
     let mut records = ArrayVec::<u8, MOST>::new();
-    check_records::read(rt, file, &mut records);
+    check_records::read_into(rt, file, &mut records);
     words::compare(&records).print(rt, check)
 }
 
 fn check_codes(rt: &HostRuntime, file: &str, check: &str) -> io::Result<()> {
     let mut records = ArrayVec::<u8, MOST>::new();
-    check_records::read(rt, file, &mut records);
+    check_records::read_into(rt, file, &mut records);
     codes::compare(&records).print(rt, check)
 }

@@ -6,7 +6,7 @@ mod buffer;
 mod cases;
 
 use arrayvec::ArrayVec;
-use check_answers::print_each;
+use check_answers::print_answers;
 use std::io;
 
 // The numbers of the answers that the files have.
@@ -25,6 +25,6 @@ fn main(rt: HostRuntime) -> io::Result<()> {
 // Compares the cases of a file. The lines name the answer that is due, and of what it is.
 fn check(rt: &HostRuntime, path: &str, answers: &[u32], of: &str) -> io::Result<()> {
     let mut cases = ArrayVec::<u8, 524288>::new();
-    check_records::read(rt, path, &mut cases);
-    print_each(rt, answers, of, |number| { cases::compare(&cases, number) })
+    check_records::read_into(rt, path, &mut cases);
+    print_answers(rt, answers, of, |number| { cases::compare(&cases, number) })
 }

@@ -17,12 +17,12 @@ fn main(rt: HostRuntime) -> io::Result<()> {
 
 fn check_codes(rt: &HostRuntime) -> io::Result<()> {
     let mut codes = ArrayVec::<u8, MOST>::new();
-    check_records::read(rt, "codes", &mut codes);
+    check_records::read_into(rt, "codes", &mut codes);
     case::compare_codes(&codes).print(rt, "codes")
 }
 
 fn check_differences(rt: &HostRuntime) -> io::Result<()> {
     let mut differences = ArrayVec::<u8, MOST>::new();
-    check_records::read(rt, "differences", &mut differences);
+    check_records::read_into(rt, "differences", &mut differences);
     case::compare_differences(&differences).print(rt, "differences")
 }

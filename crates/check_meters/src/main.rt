@@ -6,7 +6,7 @@ mod list;
 mod read;
 
 use arrayvec::ArrayVec;
-use check_answers::print_each;
+use check_answers::print_answers;
 use std::io;
 
 // The numbers of the answers that the data have.
@@ -14,10 +14,10 @@ const ANSWERS: [u32; 8] = [0, 1, 5, 6, 8, 9, 10, 11];
 
 fn main(rt: HostRuntime) -> io::Result<()> {
     let mut blocks = ArrayVec::<u8, 262144>::new();
-    check_records::read(&rt, "blocks", &mut blocks);
+    check_records::read_into(&rt, "blocks", &mut blocks);
     let mut reads = ArrayVec::<u8, 131072>::new();
-    check_records::read(&rt, "reads", &mut reads);
-    print_each(&rt, &ANSWERS, "", |number| {
+    check_records::read_into(&rt, "reads", &mut reads);
+    print_answers(&rt, &ANSWERS, "", |number| {
         list::compare(&reads, &blocks, number)
     })
 }

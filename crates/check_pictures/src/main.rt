@@ -30,10 +30,10 @@ const CLOSE: [u32; 3] = [0, 22, 24];
 
 fn main(rt: HostRuntime) -> io::Result<()> {
     let mut bytes = ArrayVec::<u8, 65536>::new();
-    check_records::read(&rt, "lights", &mut bytes);
+    check_records::read_into(&rt, "lights", &mut bytes);
     let lights = decode(&bytes);
     let mut calls = ArrayVec::<u8, 655360>::new();
-    check_records::read(&rt, "calls", &mut calls);
+    check_records::read_into(&rt, "calls", &mut calls);
     let begun = Counted {
         kind: Kind::New,
         answer: 0,
@@ -43,7 +43,7 @@ fn main(rt: HostRuntime) -> io::Result<()> {
     compare(&rt, &calls, &lights, Kind::Row, &ROW)?;
     compare(&rt, &calls, &lights, Kind::Close, &CLOSE)?;
     let mut totals = ArrayVec::<u8, 16384>::new();
-    check_records::read(&rt, "totals", &mut totals);
+    check_records::read_into(&rt, "totals", &mut totals);
     total::compare(&totals).print(&rt, "totals:")
 }
 

@@ -7,7 +7,7 @@ mod left;
 mod list;
 
 use arrayvec::ArrayVec;
-use check_answers::print_each;
+use check_answers::print_answers;
 use std::io;
 
 // The numbers of the answers that the data have.
@@ -15,10 +15,10 @@ const ANSWERS: [u32; 12] = [0, 1, 3, 5, 6, 8, 9, 10, 11, 34, 35, 36];
 
 fn main(rt: HostRuntime) -> io::Result<()> {
     let mut blocks = ArrayVec::<u8, 262144>::new();
-    check_records::read(&rt, "blocks", &mut blocks);
+    check_records::read_into(&rt, "blocks", &mut blocks);
     let mut calls = ArrayVec::<u8, 131072>::new();
-    check_records::read(&rt, "calls", &mut calls);
-    print_each(&rt, &ANSWERS, "", |number| {
+    check_records::read_into(&rt, "calls", &mut calls);
+    print_answers(&rt, &ANSWERS, "", |number| {
         list::compare(&calls, &blocks, number)
     })
 }

@@ -1,5 +1,5 @@
 // The files of data/, which the scripts of reference/ make, and the numbers in them.
-ghost use Rattle.std.specs.Prelude.{◌+◌, ◌≡◌, ◌≤◌, length};
+ghost use Rattle.std.specs.Prelude.{◌+◌, ◌≡◌, ◌≤◌, length, vec_len};
 ghost use Rattle.arrayvec.specs.ArrayVec.{array_vec_len};
 ghost use Rattle.check_records.specs.Records.{due, u16_at, u32_at};
 
@@ -11,7 +11,7 @@ use std::{fs, io};
 // Reads a file's bytes: none where it does not open, or has MOST bytes or more. A read that fails ends them, as the file's end does.
 // Into an array and no Vec: that bytes are missing where memory runs out would show as fewer comparisons alone. It is lent, so that
 // it is not copied.
-pub fn read<const MOST: usize, R: Files>(rt: &R, path: &str, bytes: &mut ArrayVec<u8, MOST>)
+pub fn read_into<const MOST: usize, R: Files>(rt: &R, path: &str, bytes: &mut ArrayVec<u8, MOST>)
     ensures { array_vec_len bytes.new ≤ MOST }
 {
     bytes.clear();
@@ -22,6 +22,22 @@ pub fn read<const MOST: usize, R: Files>(rt: &R, path: &str, bytes: &mut ArrayVe
     if bytes.is_full() {
         bytes.clear();
     }
+}
+
+// A file's bytes, as `read_into` has them, where the length that is too long is known only as the program runs. Where memory runs
+// out they end as at a read that fails, so a program that counts them takes `read_into`.
+pub fn read<R: Files + AllocGlobal>(rt: &R, path: &str, most: usize) -> Vec<u8>
+    ensures { vec_len result ≤ most }
+{
+    let mut bytes = Vec::new(rt.alloc());
+    let Ok(file) = fs::open(rt, path) else {
+        return bytes;
+    };
+    let _ = file.take(most as u64).read_to_end(&mut bytes);
+    if bytes.len() >= most {
+        bytes.clear();
+    }
+    bytes
 }
 
 // The 16-bit number at a place, low byte first.
@@ -46,4 +62,21 @@ pub fn due<T: Drop>(number: u32, values: T) -> Result<T, u32>
     ensures { result ≡ due number values }
 {
     if number == 0 { Ok(values) } else { Err(number) }
+}
+
+#[cfg(test)]
+mod tests {
+    use super::*;
+
+    #[test]
+    fn reads_what_is_short_enough(rt: HostRuntime) -> io::Result<()> {
+        fs::write(&rt, "five", b"12345")?;
+        let whole = read(&rt, "five", 6);
+        let too_long = read(&rt, "five", 5);
+        fs::remove_file(&rt, "five")?;
+        assert_eq!(rt; whole.as_slice(), b"12345".as_slice());
+        assert_eq!(rt; too_long.len(), 0);
+        assert_eq!(rt; read(&rt, "five", 6).len(), 0, "not there any more");
+        Ok(())
+    }
 }

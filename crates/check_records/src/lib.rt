@@ -8,6 +8,6 @@ mod range;
 mod tally;
 
 pub use alike::begin_alike;
-pub use file::{due, read, u16_at, u32_at};
+pub use file::{due, read, read_into, u16_at, u32_at};
 pub use range::{black, white};
 pub use tally::{Tally, compare};

@@ -20,13 +20,13 @@ fn main(rt: HostRuntime) -> io::Result<()> {
 
 fn check_lengths(rt: &HostRuntime) -> io::Result<()> {
     let mut records = ArrayVec::<u8, 4096>::new();
-    check_records::read(rt, "lengths", &mut records);
+    check_records::read_into(rt, "lengths", &mut records);
     lengths::compare(&records, Order::Segmented).print(rt, "lengths, to segmented:")?;
     lengths::compare(&records, Order::Progressive).print(rt, "lengths, to progressive:")
 }
 
 fn check_rows(rt: &HostRuntime, file: &str, check: &str) -> io::Result<()> {
     let mut rows = ArrayVec::<u8, 16384>::new();
-    check_records::read(rt, file, &mut rows);
+    check_records::read_into(rt, file, &mut rows);
     rows::compare(&rows).print(rt, check)
 }

@@ -37,7 +37,7 @@ fn main(rt: HostRuntime) -> io::Result<()> {
 #[inline(never)]
 fn check_grid(rt: &(impl Files + Print)) -> io::Result<()> {
     let mut grid = ArrayVec::<u8, MOST_WORDS>::new();
-    check_records::read(rt, "grid", &mut grid);
+    check_records::read_into(rt, "grid", &mut grid);
     grid::compare(&grid).print(rt, "grid")
 }
 
@@ -49,22 +49,22 @@ fn check_words(
     check: &str,
 ) -> io::Result<()> {
     let mut words = ArrayVec::<u8, MOST_WORDS>::new();
-    check_records::read(rt, file, &mut words);
+    check_records::read_into(rt, file, &mut words);
     words::compare(encoding, &words).print(rt, check)
 }
 
 fn check_codes(rt: &(impl Files + Print)) -> io::Result<()> {
     let mut codes = ArrayVec::<u8, MOST_CODES>::new();
-    check_records::read(rt, "codes", &mut codes);
+    check_records::read_into(rt, "codes", &mut codes);
     codes::compare(&codes).print(rt, "codes")
 }
 
 fn check_refusals(rt: &(impl Files + Print)) -> io::Result<()> {
     let mut words = ArrayVec::<u8, MOST_REFUSALS>::new();
-    check_records::read(rt, "words_refused", &mut words);
+    check_records::read_into(rt, "words_refused", &mut words);
     words::compare(Encoding::Plain, &words).print(rt, "words refused")?;
     words::compare(Encoding::Trim, &words).print(rt, "trimmed refused")?;
     let mut codes = ArrayVec::<u8, MOST_REFUSALS>::new();
-    check_records::read(rt, "codes_refused", &mut codes);
+    check_records::read_into(rt, "codes_refused", &mut codes);
     codes::compare(&codes).print(rt, "codes refused")
 }

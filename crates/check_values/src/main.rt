@@ -28,19 +28,19 @@ fn main(rt: HostRuntime) -> io::Result<()> {
 
 fn check_spans(rt: &(impl Files + Print)) -> io::Result<()> {
     let mut spans = ArrayVec::<u8, MOST_OF_CODES>::new();
-    check_records::read(rt, "spans", &mut spans);
+    check_records::read_into(rt, "spans", &mut spans);
     lights::compare_lights(&spans).print(rt, "lights")?;
     lights::compare_spans(&spans).print(rt, "spans")
 }
 
 fn check_signals(rt: &(impl Files + Print)) -> io::Result<()> {
     let mut signals = ArrayVec::<u8, MOST_SIGNALS>::new();
-    check_records::read(rt, "signals", &mut signals);
+    check_records::read_into(rt, "signals", &mut signals);
     quantised::compare(&signals).print(rt, "signals")
 }
 
 fn check_restored(rt: &(impl Files + Print)) -> io::Result<()> {
     let mut restored = ArrayVec::<u8, MOST_OF_CODES>::new();
-    check_records::read(rt, "restored", &mut restored);
+    check_records::read_into(rt, "restored", &mut restored);
     restored::compare(&restored).print(rt, "restored")
 }

@@ -23,7 +23,7 @@ fn main(rt: HostRuntime) -> io::Result<()> {
 
 fn check(rt: &(impl Files + Print), system: u32, name: &str) -> io::Result<()> {
     let mut records = ArrayVec::<u8, MOST>::new();
-    check_records::read(rt, name, &mut records);
+    check_records::read_into(rt, name, &mut records);
     let found = comparison::compare(system, &records);
     print(rt, system, found.words.same, "words")?;
     print(rt, system, found.words.near, "words within one")?;

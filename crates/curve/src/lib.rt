@@ -23,8 +23,14 @@ pub trait Thresholds {
         ensures { BoundariesAt bits result.now };
 
     fn index() -> &'static [u16]
-        ensures index { IndexAt bits SHIFT result.now }
-        ensures whole { length result.now * 2 ^ SHIFT ≡ 65536 };
+        ensures { IndexAt bits SHIFT result.now };
+}
+
+// Thresholds whose index has an entry for each run of lights and none beyond the last.
+pub trait WholeIndex: Thresholds {
+    fn whole_index() -> &'static [u16]
+        ensures index { IndexAt Self.bits Self.SHIFT result.now }
+        ensures whole { length result.now * 2 ^ Self.SHIFT ≡ 65536 };
 }
 
 // The code of a light by boundaries and an index that are lent. The index leads by the light's high bits to the first of two

@@ -15,7 +15,7 @@ unfolding digits_to
 last_behind = search rules
 
 -- the library's decimal text of a number
-as_written : (n : ℕ) → n < 2 ^ 64 → formats.decimal n ≡ decimal n
+pub as_written : (n : ℕ) → n < 2 ^ 64 → formats.decimal n ≡ decimal n
 as_written n h = sym (decimal_from_appends digits_to last_behind (suc n) n h (omega (arith, length-decimal-le_succ n h)))
 
 pub below_ten : (n : ℕ) → n < 10 → decimal n ≡ glyph n ∷ []

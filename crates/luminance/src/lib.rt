@@ -24,8 +24,15 @@ pub trait Thresholds {
 
     fn index() -> &'static [u16]
         ensures some { 0 < BUCKET }
-        ensures index { Index (quantiser_of system) BUCKET result.now }
-        ensures whole { length result.now * BUCKET ≡ 10000 * 65536 };
+        ensures index { Index (quantiser_of system) BUCKET result.now };
+}
+
+// Thresholds whose index has an entry for each run of luminances and none beyond the last.
+pub trait WholeIndex: Thresholds {
+    fn whole_index() -> &'static [u16]
+        ensures some { 0 < Self.BUCKET }
+        ensures index { Index (quantiser_of Self.system) Self.BUCKET result.now }
+        ensures whole { length result.now * Self.BUCKET ≡ 10000 * 65536 };
 }
 
 // The code of a luminance by boundaries and an index that are lent. The index leads by the bucket that it is in to the first of two

@@ -6,7 +6,7 @@ mod table;
 
 ghost use Rattle.systems.specs.declared.System.TheVariants.{Bt2020Bits12};
 
-use luminance::Thresholds;
+use luminance::{Thresholds, WholeIndex};
 
 pub struct Bits12;
 
@@ -23,6 +23,12 @@ impl Thresholds for Bits12 {
     }
 
     fn index() -> &'static [u16] {
+        Self::whole_index()
+    }
+}
+
+impl WholeIndex for Bits12 {
+    fn whole_index() -> &'static [u16] {
         &thresholds_12::INDEX
     }
 }

@@ -4,7 +4,7 @@
 
 mod table;
 
-use curve::Thresholds;
+use curve::{Thresholds, WholeIndex};
 pub use table::INDEX;
 
 pub struct Bits12;
@@ -21,6 +21,12 @@ impl Thresholds for Bits12 {
     }
 
     fn index() -> &'static [u16] {
+        Self::whole_index()
+    }
+}
+
+impl WholeIndex for Bits12 {
+    fn whole_index() -> &'static [u16] {
         &table::INDEX
     }
 }

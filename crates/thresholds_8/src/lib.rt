@@ -4,7 +4,7 @@
 
 mod table;
 
-use curve::Thresholds;
+use curve::{Thresholds, WholeIndex};
 
 pub struct Bits8;
 
@@ -20,6 +20,12 @@ impl Thresholds for Bits8 {
     }
 
     fn index() -> &'static [u16] {
+        Self::whole_index()
+    }
+}
+
+impl WholeIndex for Bits8 {
+    fn whole_index() -> &'static [u16] {
         &table::INDEX
     }
 }

@@ -1,11 +1,11 @@
--- `Bits10::index`: the 10-bit index of lights passes its test at the scale of luminance, which antt computes.
+-- `Bits10::whole_index`: the 10-bit index of lights passes its test at the scale of luminance, which antt computes.
 use lib.Dec.{lit<, lit≤}
 use Rattle.systems.specs.declared.System.TheVariants.{Bt2020Bits10}
 use Rattle.curve.specs.Curve.{dark, reaches}
 use Rattle.curve.proofs.Curve.{on_line_at, at_least}
 use Rattle.curve.proofs.Tests.{index, bucket}
 use Rattle.luminance.proofs.Luminances.{rule}
-use Rattle.luminance_10.proofs.Bits10Thresholds.index.Goals as goal
+use Rattle.luminance_10.proofs.Bits10WholeIndex.whole_index.Goals as goal
 
 pub returns-clause-index : goal.returns-clause-index
 unfolding bucket at_least dark on_line_at reaches

@@ -1,11 +1,11 @@
--- `Bits8::index`: the 8-bit index passes its test, which antt computes.
+-- `Bits10::whole_index`: the 10-bit index passes its test, which antt computes.
 use lib.Dec.{lit<, lit≤}
 use Rattle.curve.specs.Curve.{dark, reaches}
 use Rattle.curve.proofs.Curve.{on_line_at, at_least}
 use Rattle.curve.proofs.Lights.{rule, system_at, index_at}
 use Rattle.curve.proofs.Tests.{index, bucket}
-use Rattle.thresholds_8.proofs.Bits8Thresholds.index.Goals as goal
+use Rattle.thresholds_10.proofs.Bits10WholeIndex.whole_index.Goals as goal
 
 pub returns-clause-index : goal.returns-clause-index
 unfolding bucket at_least dark on_line_at reaches
-returns-clause-index c = index_at 8 7 (index (rule (system_at 8)) 128 _ (lit< tt) (lit≤ tt) (lit< tt) tt)
+returns-clause-index c = index_at 10 5 (index (rule (system_at 10)) 32 _ (lit< tt) (lit≤ tt) (lit< tt) tt)
